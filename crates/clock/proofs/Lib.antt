@@ -1,0 +1,4 @@
+pub mod Entrywise
+pub mod Rows
+pub mod Matrices
+pub mod Listing

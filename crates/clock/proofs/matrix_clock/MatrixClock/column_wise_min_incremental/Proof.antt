@@ -1,0 +1,30 @@
+use mathlib.Core.Path.{sym, _∙_}
+use Rattle.clock.proofs.Matrices.{fits-done}
+use borrow.Author.Needs.{needs}
+use Rattle.clock.proofs.matrix_clock.MatrixClock.column_wise_min_incremental.Statement.{
+  statement,
+}
+use Rattle.clock.proofs.matrix_clock.MatrixClock.column_wise_min_incremental.Tie as tie
+
+fit-requires : tie.Need-fit-requires
+fit-requires c κs = search needs
+
+enum-known-why : tie.Need-enum-known-why
+enum-known-why c = search needs
+
+enum-told : tie.Need-enum-told
+enum-told c = search needs
+
+settled-cut-requires : tie.Need-settled-cut-requires
+settled-cut-requires c κs = fits-done _ _ _ _ (sym (c .before .before .before .fit .ensures) ∙ c .before .enum-told .given .1) .few
+
+returns : tie.Need-returns
+returns c = rw (← c .before .before .before .fit .ensures, c .before .why .given .1)
+
+returns-2 : tie.Need-returns-2
+returns-2 c = rw (c .settled-cut .ensures, ← c .before .before .before .before .fit .ensures, c .before .before .enum-told .given .1)
+
+pub column-wise-min-incremental-spec : {M : Type 1} → statement M
+column-wise-min-incremental-spec =
+    tie.close
+    (tie.spec fit-requires enum-known-why enum-told settled-cut-requires returns returns-2)

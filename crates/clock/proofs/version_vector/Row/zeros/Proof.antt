@@ -1,0 +1,10 @@
+use Rattle.clock.proofs.Entrywise.{tab-same}
+use borrow.Author.Needs.{needs}
+use Rattle.clock.proofs.version_vector.Row.zeros.Statement.{statement}
+use Rattle.clock.proofs.version_vector.Row.zeros.Tie as tie
+
+returns : tie.Need-returns
+returns c = tab-same 16 0
+
+pub zeros-spec : {M : Type 1} → statement M
+zeros-spec = tie.close (tie.spec returns)

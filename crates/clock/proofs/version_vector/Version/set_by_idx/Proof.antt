@@ -1,0 +1,44 @@
+use borrow.Author.Needs.{needs}
+use Rattle.clock.proofs.version_vector.Version.set_by_idx.Statement.{statement}
+use Rattle.clock.proofs.version_vector.Version.set_by_idx.Tie as tie
+
+fit-requires : tie.Need-fit-requires
+fit-requires c κs = search needs
+
+enum-known-why : tie.Need-enum-known-why
+enum-known-why c = search needs
+
+kept-requires : tie.Need-kept-requires
+kept-requires c κs = search needs
+
+enum-told : tie.Need-enum-told
+enum-told c = search needs
+
+set-requires : tie.Need-set-requires
+set-requires c κs = search needs
+
+with-row-requires : tie.Need-with-row-requires
+with-row-requires c κs = search needs
+
+done-requires : tie.Need-done-requires
+done-requires c κs = search needs
+
+returns : tie.Need-returns
+returns c = rw (c .kept .ensures, ← c .before .before .before .before .fit .ensures, c .before .before .why .given .1)
+
+returns-2 : tie.Need-returns-2
+returns-2 c = rw (c .done .ensures, c .before .with-row .ensures, c .before .before .set .ensures, ← c .before .before .before .before .before .before .fit .ensures, c .before .before .before .before .enum-told .given .1)
+
+pub set-by-idx-spec : {M : Type 1} → statement M
+set-by-idx-spec =
+    tie.close
+    (tie.spec
+    fit-requires
+    enum-known-why
+    kept-requires
+    enum-told
+    set-requires
+    with-row-requires
+    done-requires
+    returns
+    returns-2)

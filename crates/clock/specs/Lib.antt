@@ -1,0 +1,4 @@
+pub mod Entries
+pub mod Version
+pub mod Frontier
+pub mod Matrix
