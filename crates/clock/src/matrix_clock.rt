@@ -3,6 +3,7 @@ use crate::causal_frontier::CausalFrontier;
 use crate::causal_frontier::FrontierAnswer;
 use crate::id::ReplicaIdx;
 use crate::id::Tested;
+use crate::version_vector::MEMBERS;
 use crate::version_vector::Row;
 use crate::version_vector::Version;
 use crate::version_vector::VersionAnswer;
@@ -41,7 +42,8 @@ pub struct Raised {
 }
 
 impl Columns {
-    pub fn none() -> Columns
+    // No column is raised.
+    pub(crate) fn none() -> Columns
         ensures { λ r. ⌜ r .raised ≡ noColumns ⌝ }
     {
         Columns {
@@ -81,16 +83,20 @@ impl MatrixClock {
         ensures { λ r. ⌜ r .entries ≡ rowOf (self .rows) (idx .0) ⌝ }
     {
         let i = idx.0;
-        if i < 16 { self.rows[i] } else { Row::zeros() }
+        if i < MEMBERS {
+            self.rows[i]
+        } else {
+            Row::zeros()
+        }
     }
 
     // The matrix with another row at a place; unchanged where there is none.
     pub fn with_row(mut self, idx: ReplicaIdx, row: Row) -> MatrixClock
         ensures { λ r. ⌜ r ≡ withRowAt self (idx .0) (row .entries) ⌝ }
     {
-        let i = idx.0;
-        if i < 16 {
-            self.rows[i] = row;
+        let at = idx.0;
+        if at < MEMBERS {
+            self.rows[at] = row;
         }
         self
     }

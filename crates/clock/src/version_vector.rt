@@ -96,7 +96,7 @@ pub(crate) fn fit(members: usize, other: usize, place: usize, another: usize) ->
 pub(crate) fn clamp(n: usize) -> usize
     ensures { λ r. ⌜ r ≡ min n 16 ⌝ }
 {
-    if n < 16 { n } else { 16 }
+    if n < MEMBERS { n } else { MEMBERS }
 }
 
 fn pick(larger: bool, x: u32, y: u32) -> u32
@@ -124,6 +124,7 @@ fn merge(larger: bool, a: Row, b: Row, members: usize) -> Row
 }
 
 impl Row {
+    // A row of zeros.
     pub fn zeros() -> Row
         ensures { λ r. ⌜ r .entries ≡ zeroEntries ⌝ }
     {
@@ -135,7 +136,7 @@ impl Row {
         ensures { λ r. ⌜ r ≡ at (self .entries) (idx .0) ⌝ }
     {
         let i = idx.0;
-        if i < 16 { self.entries[i] } else { 0 }
+        if i < MEMBERS { self.entries[i] } else { 0 }
     }
 
     // The row with another entry at a place; unchanged where there is none.
@@ -143,7 +144,7 @@ impl Row {
         ensures { λ r. ⌜ r .entries ≡ set (self .entries) (idx .0) value ⌝ }
     {
         let i = idx.0;
-        if i < 16 {
+        if i < MEMBERS {
             self.entries[i] = value;
         }
         self
