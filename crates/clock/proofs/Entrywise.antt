@@ -3,16 +3,15 @@ use mathlib.Core.Path.{_≡_, refl, sym, ap, _∙_}
 use mathlib.Core.Bool.{Bool, true, false, cond, _&&_, _||_}
 use mathlib.Core.Logic.{_⊎_, inl, inr, ⊎-elim}
 use mathlib.Core.List.{List, [], _∷_, _++_, map}
-use Prim.Native.Nat.{ℕ, zero, suc, _+_, _-_, _≤_, _<_, min, zero-le, suc-le-suc}
+use Prim.Native.Nat.{ℕ, zero, suc, _+_, _≤_, _<_, min, zero-le, suc-le-suc}
 use native.Mathlib.Nat.{not-suc-le-zero, le-of-suc-le-suc}
 use native.Mathlib.Numerals.{add-one}
-use native.Mathlib.Decide.{decLe}
 use native.Mathlib.Omega.{arith}
 use lib.ListN.{length, getD, set, replicate, length-set, length-map, length-append, List·getD-append, length-replicate, getD-replicate, List·getD-eq-default}
-use lib.Seq.{ext-getD, getD-append-seam, getD-set-same, getD-set-other, set-out}
+use lib.Seq.{ext-getD, getD-append-seam, getD-set-same, getD-set-other}
 use lib.Dec.{ltb, leb}
-use borrow.Author.Tests.{lt-ltb, le-ltb, le-leb, lt-leb, leb-true}
-use Rattle.clock.specs.Entries.{at, tab, over, all, any, sum, least, zeroEntries, atMost, sameEntries}
+use borrow.Author.Tests.{lt-ltb, le-ltb, le-leb}
+use Rattle.clock.specs.Entries.{at, tab, over, all, any, sum, atMost}
 
 pub split : (m n : ℕ) → (m < n) ⊎ (n ≤ m)
 split m zero = inr zero-le
@@ -170,9 +169,6 @@ tab-push {A} d n l x h =
     (length-set (tab n (λ j. getD l j d)) (length l) x ∙ length-tab n (λ j. getD l j d))
     (λ k lt. place k lt (split k (length l)) (split (length l) k))
   where
-    old : ℕ → A
-    old j = getD l j d
-
     place : (k : ℕ) → k < n → (k < length l) ⊎ (length l ≤ k) → (length l < k) ⊎ (k ≤ length l) → getD (set (tab n (λ j. getD l j d)) (length l) x) k d ≡ getD (l ++ (x ∷ [])) k d
     place k lt (inl a) _ =
         getD-set-other (tab n (λ j. getD l j d)) (length l) k x d (λ q. omega arith)

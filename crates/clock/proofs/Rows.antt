@@ -1,15 +1,15 @@
 -- What the loops over rows keep, turn by turn, whatever they make or test. Assumes nothing.
 use mathlib.Core.Path.{_≡_, refl, sym, ap, _∙_}
-use mathlib.Core.Bool.{Bool, true, false, cond, _||_}
-use mathlib.Core.List.{List, [], _∷_, _++_}
+use mathlib.Core.Bool.{Bool, true, false, cond}
+use mathlib.Core.List.{List}
 use Prim.Native.Nat.{ℕ, zero, suc, _+_, _-_, _*_, _≤_, _<_, min}
 use native.Mathlib.Numerals.{add-one}
 use native.Mathlib.Omega.{arith}
-use lib.ListN.{length, getD, set}
-use lib.Dec.{leb, eqb}
+use lib.ListN.{length, set}
+use lib.Dec.{eqb}
 use borrow.Author.Tests.{eq-eqb, ne-eqb}
 use Rattle.clock.specs.Entries.{at, all, any, sum, least, over, sumEntries}
-use Rattle.clock.proofs.Entrywise.{over-none, over-more, all-more, all-fails, any-found, sum-more, sum-clamp, past-end}
+use Rattle.clock.proofs.Entrywise.{over-none, over-more, all-more, all-fails, any-found, sum-more}
 
 -- ---- a list whose first i elements, of n, are made f 0, f 1, ..
 

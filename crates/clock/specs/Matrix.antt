@@ -1,6 +1,6 @@
 -- The matrix clock, from document 01's section Versions and its calls Next and Frontier. Assumes nothing.
 use Prim.Native.Nat.{ℕ, _-_}
-use mathlib.Core.Bool.{Bool, true, false, cond, _&&_}
+use mathlib.Core.Bool.{Bool, false, cond, _&&_}
 use mathlib.Core.List.{List}
 use lib.ListN.{getD, set}
 use lib.Dec.{leb, ltb, eqb}
@@ -8,7 +8,7 @@ use Rattle.refusal.specs.declared.Refusal.{Refusal}
 use Rattle.refusal.specs.declared.Outcome.{Outcome}
 use Rattle.refusal.specs.declared.Outcome.the-variants.{Done, Refused}
 use Rattle.refusal.specs.Refusal.{unless}
-use Rattle.clock.specs.Entries.{at, tab, over, all, any, least, zeroEntries, joinEntries, atMost, sameEntries}
+use Rattle.clock.specs.Entries.{at, tab, over, all, any, least, zeroEntries, joinEntries, sameEntries}
 use Rattle.clock.specs.Version.{fitsOf, keptVersion, doneVersion, noVersion}
 use Rattle.clock.specs.Frontier.{keptFrontier, doneFrontier, withCut}
 use Rattle.clock.specs.declared.id.Tested.{Tested}
@@ -56,7 +56,7 @@ doneMatrix m = record { outcome = Done; matrix = m }
 
 -- ---- the calls
 
--- what stands where there is no matrix
+-- a matrix of zeros; one of no members stands where there is no matrix
 abbrev pub zeroMatrix : ℕ → ℕ → MatrixClock
 zeroMatrix i n = record { members = n; origin = record { 0 = i }; rows = tab 16 (λ k. zeroRow) }
 

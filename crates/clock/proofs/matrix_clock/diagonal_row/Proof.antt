@@ -2,9 +2,9 @@ use Rattle.clock.specs.Entries.{over, zeroEntries}
 use Rattle.clock.specs.Matrix.{cell}
 use Rattle.clock.proofs.Entrywise.{length-tab}
 use Rattle.clock.proofs.Rows.{Making, make-none, make-more, make-all}
-use Prim.Native.Nat.{ℕ, suc, _≤_, _<_, _-_, _+_}
+use Prim.Native.Nat.{ℕ, _-_}
 use native.Mathlib.Omega.{arith}
-use mathlib.Core.Path.{_≡_, refl, sym, ap, _∙_}
+use mathlib.Core.Path.{_≡_, refl, ap, _∙_}
 use borrow.Author.Needs.{needs}
 use Rattle.clock.proofs.matrix_clock.diagonal_row.Statement.{statement}
 use Rattle.clock.proofs.matrix_clock.diagonal_row.Tie as tie

@@ -2,9 +2,9 @@ use borrow.Author.Tests.{not-true, not-false}
 use Rattle.clock.specs.Entries.{atMost}
 use Rattle.clock.specs.Matrix.{rowOf}
 use Rattle.clock.proofs.Rows.{Passing, pass-none, pass-more, pass-fails, pass-all}
-use Prim.Native.Nat.{ℕ, suc, _≤_, _<_, _-_, _+_}
+use Prim.Native.Nat.{_-_}
 use native.Mathlib.Omega.{arith}
-use mathlib.Core.Path.{_≡_, refl, sym, ap, _∙_}
+use mathlib.Core.Path.{_≡_, refl, sym}
 use borrow.Author.Needs.{needs}
 use Rattle.clock.proofs.matrix_clock.rows_at_most.Statement.{statement}
 use Rattle.clock.proofs.matrix_clock.rows_at_most.Tie as tie

@@ -1,4 +1,4 @@
-use Prim.Native.Nat.{min}
+use Prim.Native.Nat.{min, _-_}
 use borrow.Author.Tests.{not-true, not-false}
 use lib.ListN.{length}
 use Rattle.clock.specs.Entries.{all, sameEntries}
@@ -6,9 +6,8 @@ use Rattle.clock.specs.Matrix.{rowOf, sameRows}
 use Rattle.clock.proofs.Entrywise.{length-mapped}
 use Rattle.clock.proofs.Rows.{Passing, pass-none, pass-more, pass-fails, pass-all}
 use Rattle.clock.proofs.Matrices.{same-rows-clamp}
-use Prim.Native.Nat.{ℕ, suc, _≤_, _<_, _-_, _+_}
 use native.Mathlib.Omega.{arith}
-use mathlib.Core.Path.{_≡_, refl, sym, ap, _∙_}
+use mathlib.Core.Path.{_≡_, refl, sym, _∙_}
 use borrow.Author.Needs.{needs}
 use Rattle.clock.proofs.matrix_clock.same_rows.Statement.{statement}
 use Rattle.clock.proofs.matrix_clock.same_rows.Tie as tie

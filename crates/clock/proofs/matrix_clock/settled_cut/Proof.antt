@@ -2,9 +2,9 @@ use lib.ListN.{length}
 use Rattle.clock.specs.Entries.{at, over}
 use Rattle.clock.specs.Matrix.{column}
 use Rattle.clock.proofs.Rows.{Making, make-none, make-more, make-all}
-use Prim.Native.Nat.{ℕ, suc, _≤_, _<_, _-_, _+_}
+use Prim.Native.Nat.{ℕ, _≤_, _-_}
 use native.Mathlib.Omega.{arith}
-use mathlib.Core.Path.{_≡_, refl, sym, ap, _∙_}
+use mathlib.Core.Path.{_≡_, refl, ap, _∙_}
 use borrow.Author.Needs.{needs}
 use Rattle.clock.proofs.matrix_clock.settled_cut.Statement.{statement}
 use Rattle.clock.proofs.matrix_clock.settled_cut.Tie as tie

@@ -1,7 +1,6 @@
 use Rattle.clock.proofs.Listing.{Listing, list-none, list-skip, list-more, list-all}
-use Prim.Native.Nat.{ℕ, suc, _≤_, _<_, _-_, _+_}
+use Prim.Native.Nat.{_-_}
 use native.Mathlib.Omega.{arith}
-use mathlib.Core.Path.{_≡_, refl, sym, ap, _∙_}
 use borrow.Author.Needs.{needs}
 use Rattle.clock.proofs.version_vector.dependencies_listed.Statement.{statement}
 use Rattle.clock.proofs.version_vector.dependencies_listed.Tie as tie

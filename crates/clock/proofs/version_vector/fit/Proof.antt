@@ -1,6 +1,5 @@
 use Rattle.clock.specs.Version.{fitsOf}
 use borrow.Author.Tests.{eq-eqb, le-leb, le-ltb, lt-leb, lt-ltb, ne-eqb}
-use borrow.Author.Needs.{needs}
 use Rattle.clock.proofs.version_vector.fit.Statement.{statement}
 use Rattle.clock.proofs.version_vector.fit.Tie as tie
 

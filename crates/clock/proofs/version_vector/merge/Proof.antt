@@ -1,11 +1,10 @@
-use Prim.Native.Nat.{min}
+use Prim.Native.Nat.{min, _-_}
 use Rattle.clock.specs.Entries.{at, pickBy}
 use Rattle.clock.proofs.Entrywise.{over-clamp}
 use Rattle.clock.proofs.Rows.{Making, make-none, make-more, make-all}
 use lib.ListN.{length}
-use Prim.Native.Nat.{ℕ, suc, _≤_, _<_, _-_, _+_}
 use native.Mathlib.Omega.{arith}
-use mathlib.Core.Path.{_≡_, refl, sym, ap, _∙_}
+use mathlib.Core.Path.{_≡_, _∙_}
 use borrow.Author.Needs.{needs}
 use Rattle.clock.proofs.version_vector.merge.Statement.{statement}
 use Rattle.clock.proofs.version_vector.merge.Tie as tie

@@ -3,7 +3,6 @@ use mathlib.Core.List.{List}
 use Rattle.clock.specs.declared.id.EventId.{EventId}
 use Rattle.clock.specs.Version.{noId}
 use Rattle.clock.proofs.Entrywise.{tab-same}
-use borrow.Author.Needs.{needs}
 use Rattle.clock.proofs.version_vector.no_dependencies.Statement.{statement}
 use Rattle.clock.proofs.version_vector.no_dependencies.Tie as tie
 

@@ -1,6 +1,5 @@
 use native.Mathlib.Nat.{le-of-lt}
 use borrow.Author.Tests.{le-leb, lt-leb}
-use borrow.Author.Needs.{needs}
 use Rattle.clock.proofs.version_vector.numbers_order.Statement.{statement}
 use Rattle.clock.proofs.version_vector.numbers_order.Tie as tie
 

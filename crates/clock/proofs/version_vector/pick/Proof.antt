@@ -1,5 +1,4 @@
 use native.Mathlib.Omega.{arith}
-use borrow.Author.Needs.{needs}
 use Rattle.clock.proofs.version_vector.pick.Statement.{statement}
 use Rattle.clock.proofs.version_vector.pick.Tie as tie
 

@@ -1,6 +1,4 @@
 use borrow.Author.Tests.{eq-eqb, ne-eqb}
-use borrow.Author.Tests.{eq-eqb, ne-eqb}
-use borrow.Author.Needs.{needs}
 use Rattle.clock.proofs.id.EventId.eq.Statement.{statement}
 use Rattle.clock.proofs.id.EventId.eq.Tie as tie
 

@@ -1,6 +1,5 @@
 use mathlib.Core.Bool.{false}
 use Rattle.clock.proofs.Entrywise.{tab-same}
-use borrow.Author.Needs.{needs}
 use Rattle.clock.proofs.matrix_clock.Columns.none.Statement.{statement}
 use Rattle.clock.proofs.matrix_clock.Columns.none.Tie as tie
 

@@ -1,13 +1,12 @@
-use Prim.Native.Nat.{min}
+use Prim.Native.Nat.{min, _-_}
 use lib.Dec.{leb}
 use borrow.Author.Tests.{le-leb, lt-leb}
 use Rattle.clock.specs.Entries.{at}
 use Rattle.clock.proofs.Entrywise.{at-most-clamp}
 use Rattle.clock.proofs.Rows.{Passing, pass-none, pass-more, pass-fails, pass-all}
 use lib.ListN.{length}
-use Prim.Native.Nat.{ℕ, suc, _≤_, _<_, _-_, _+_}
 use native.Mathlib.Omega.{arith}
-use mathlib.Core.Path.{_≡_, refl, sym, ap, _∙_}
+use mathlib.Core.Path.{_≡_, sym, _∙_}
 use borrow.Author.Needs.{needs}
 use Rattle.clock.proofs.version_vector.Row.at_most.Statement.{statement}
 use Rattle.clock.proofs.version_vector.Row.at_most.Tie as tie

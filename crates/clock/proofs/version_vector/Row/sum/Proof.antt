@@ -1,11 +1,10 @@
-use Prim.Native.Nat.{min}
+use Prim.Native.Nat.{min, _-_}
 use Rattle.clock.specs.Entries.{at}
 use Rattle.clock.proofs.Entrywise.{sum-clamp, past-end}
 use Rattle.clock.proofs.Rows.{Summing, sum-none, sum-one, sum-all}
 use lib.ListN.{length}
-use Prim.Native.Nat.{ℕ, suc, _≤_, _<_, _-_, _+_}
 use native.Mathlib.Omega.{arith}
-use mathlib.Core.Path.{_≡_, refl, sym, ap, _∙_}
+use mathlib.Core.Path.{_≡_, _∙_}
 use borrow.Author.Needs.{needs}
 use Rattle.clock.proofs.version_vector.Row.sum.Statement.{statement}
 use Rattle.clock.proofs.version_vector.Row.sum.Tie as tie

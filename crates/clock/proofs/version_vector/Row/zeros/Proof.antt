@@ -1,5 +1,4 @@
 use Rattle.clock.proofs.Entrywise.{tab-same}
-use borrow.Author.Needs.{needs}
 use Rattle.clock.proofs.version_vector.Row.zeros.Statement.{statement}
 use Rattle.clock.proofs.version_vector.Row.zeros.Tie as tie
 
