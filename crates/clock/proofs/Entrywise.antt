@@ -1,22 +1,18 @@
 -- The laws of `specs/Entries.antt`, over any member count. Assumes nothing.
 use mathlib.Core.Path.{_≡_, refl, sym, ap, _∙_}
-use mathlib.Core.Bool.{Bool, true, false, cond, _&&_, _||_}
+use mathlib.Core.Bool.{Bool, true, false, cond, _&&_, and-true, and-false, or-true}
 use mathlib.Core.Logic.{_⊎_, inl, inr, ⊎-elim}
 use mathlib.Core.List.{List, [], _∷_, _++_, map}
-use Prim.Native.Nat.{ℕ, zero, suc, _+_, _≤_, _<_, min, zero-le, suc-le-suc}
+use Prim.Native.Nat.{ℕ, zero, suc, _+_, _≤_, _<_, min, zero-le}
 use native.Mathlib.Nat.{not-suc-le-zero, le-of-suc-le-suc}
 use native.Mathlib.Numerals.{add-one}
 use native.Mathlib.Omega.{arith}
 use lib.ListN.{length, getD, set, replicate, length-set, length-map, length-append, List·getD-append, length-replicate, getD-replicate, List·getD-eq-default}
 use lib.Seq.{ext-getD, getD-append-seam, getD-set-same, getD-set-other}
-use lib.Dec.{ltb, leb}
-use borrow.Author.Tests.{lt-ltb, le-ltb, le-leb}
-use Rattle.clock.specs.Entries.{at, tab, over, all, any, sum, atMost}
-
-pub split : (m n : ℕ) → (m < n) ⊎ (n ≤ m)
-split m zero = inr zero-le
-split zero (suc n) = inl (omega arith)
-split (suc m) (suc n) = ⊎-elim (λ h. inl (suc-le-suc h)) (λ h. inr (suc-le-suc h)) (split m n)
+use lib.Dec.{ltb, leb, eqb}
+use borrow.Author.Tests.{lt-ltb, le-ltb, le-leb, lt-leb, eq-eqb, ne-eqb}
+use Rattle.clock.specs.Entries.{at, tab, over, all, any, sum, atMost, sameEntries}
+use Rattle.refusal.proofs.Cases.{split}
 
 -- ---- tab
 
@@ -96,10 +92,6 @@ all-clamp (suc n) k p h =
     ⊎-elim (λ g. let e : min (suc n) k ≡ suc n = omega arith in rw e refl)
     (λ g. let e : min (suc n) k ≡ min n k = omega arith in rw (e, all-clamp n k p h, h n (omega arith)) (sym (and-true (all n p))))
     (split n k)
-  where
-    and-true : (b : Bool) → b && true ≡ b
-    and-true true = refl
-    and-true false = refl
 
 pub sum-clamp : (n k : ℕ) (f : ℕ → ℕ) → ((j : ℕ) → k ≤ j → f j ≡ 0) → sum (min n k) f ≡ sum n f
 unfolding sum
@@ -120,20 +112,12 @@ unfolding all
 all-fails zero i p h e = absurd (not-suc-le-zero h)
 all-fails (suc n) i p h e =
     ⊎-elim (λ g. rw (all-fails n i p g e) refl) (λ g. let q : n ≡ i = omega arith in rw (q, e) (and-false (all i p))) (split i n)
-  where
-    and-false : (b : Bool) → b && false ≡ false
-    and-false true = refl
-    and-false false = refl
 
 pub any-found : (n i : ℕ) (p : ℕ → Bool) → i < n → p i ≡ true → any n p ≡ true
 unfolding any
 any-found zero i p h e = absurd (not-suc-le-zero h)
 any-found (suc n) i p h e =
     ⊎-elim (λ g. rw (any-found n i p g e) refl) (λ g. let q : n ≡ i = omega arith in rw (q, e) (or-true (any i p))) (split i n)
-  where
-    or-true : (b : Bool) → b || true ≡ true
-    or-true true = refl
-    or-true false = refl
 
 -- tests that agree below n
 pub all-same : (n : ℕ) (p q : ℕ → Bool) → ((j : ℕ) → j < n → p j ≡ q j) → all n p ≡ all n q
@@ -182,6 +166,28 @@ tab-push {A} d n l x h =
         rw e (getD-set-same (tab n (λ j. getD l j d)) (length l) x d (omega (arith, length-tab n (λ j. getD l j d))) ∙ sym (getD-append-seam l x [] d))
 
 -- ---- rows
+
+-- neither of two numbers is above the other where they are the same
+both-ways : (x y : ℕ) → leb x y && leb y x ≡ eqb x y
+both-ways x y = go (split x y) (split y x)
+  where
+    go : (x < y) ⊎ (y ≤ x) → (y < x) ⊎ (x ≤ y) → leb x y && leb y x ≡ eqb x y
+    go (inl h) _ = rw (lt-leb y x h, ne-eqb x y (λ e. omega arith)) (and-false (leb x y))
+    go (inr h) (inl g) = rw (lt-leb x y g, ne-eqb x y (λ e. omega arith)) refl
+    go (inr h) (inr g) = rw (le-leb x y g, le-leb y x h, eq-eqb x y (omega arith)) refl
+
+-- no entry of either row is above the other's where all are the same
+pub same-both : (n : ℕ) (a b : List ℕ) → atMost n a b && atMost n b a ≡ sameEntries n a b
+unfolding all
+same-both zero a b = refl
+same-both (suc n) a b =
+    regroup (atMost n a b) (leb (at a n) (at b n)) (atMost n b a) (leb (at b n) (at a n))
+    ∙ rw (same-both n a b, both-ways (at a n) (at b n)) refl
+  where
+    regroup : (p q r s : Bool) → (p && q) && (r && s) ≡ (p && r) && (q && s)
+    regroup true q true s = refl
+    regroup true q false s = and-false q
+    regroup false q r s = refl
 
 -- an entry past a row's end is 0
 pub past-end : (r : List ℕ) (k j : ℕ) → length r ≡ k → k ≤ j → at r j ≡ 0

@@ -6,7 +6,7 @@ use Prim.Native.Nat.{ℕ, _≤_, _<_, min}
 use native.Mathlib.Omega.{arith}
 use lib.ListN.{length, List·getD-eq-default}
 use lib.Dec.{leb, ltb, eqb}
-use borrow.Author.Tests.{le-leb, lt-ltb, ltb-false, leb-false, eqb-true}
+use borrow.Author.Tests.{lt-ltb, ltb-false, leb-false, eqb-true, eq-eqb}
 use Rattle.refusal.specs.declared.Outcome.{Outcome}
 use Rattle.refusal.specs.declared.Outcome.the-variants.{Done, Refused}
 use Rattle.refusal.specs.Refusal.{no, unless}
@@ -47,7 +47,7 @@ fits-done n m i j = go (ltb n 2) (ltb 16 n) (eqb n m) (leb n i) (leb n j) refl r
 
 -- no row differs from itself
 pub same-self : (n : ℕ) (a : List ℕ) → sameEntries n a a ≡ true
-same-self n a = let e : atMost n a a ≡ true = all-each n (λ j. leb (at a j) (at a j)) (λ j h. le-leb (at a j) (at a j) (omega arith)) in rw e refl
+same-self n a = all-each n (λ j. eqb (at a j) (at a j)) (λ j h. eq-eqb (at a j) (at a j) refl)
 
 -- past sixteen there are no rows
 pub no-row : (a : List Row) (k : ℕ) → length a ≡ 16 → 16 ≤ k → rowOf a k ≡ zeroEntries

@@ -3,7 +3,7 @@ use Prim.Native.Nat.{ℕ, zero, suc, _+_, min, max}
 use mathlib.Core.Bool.{Bool, true, false, cond, _&&_, _||_}
 use mathlib.Core.List.{List, [], _∷_}
 use lib.ListN.{length, getD}
-use lib.Dec.{leb, ltb}
+use lib.Dec.{leb, ltb, eqb}
 
 -- the entry at a place, and 0 where there is none
 abbrev pub at : List ℕ → ℕ → ℕ
@@ -56,12 +56,13 @@ joinEntries = mergeEntries max
 abbrev pub meetEntries : ℕ → List ℕ → List ℕ → List ℕ
 meetEntries = mergeEntries min
 
+-- no entry is above the other's
 abbrev pub atMost : ℕ → List ℕ → List ℕ → Bool
 atMost n a b = all n (λ j. leb (at a j) (at b j))
 
 abbrev pub sumEntries : ℕ → List ℕ → ℕ
 sumEntries n a = sum n (at a)
 
--- no entry of either is above the other's
+-- each entry is the other's
 abbrev pub sameEntries : ℕ → List ℕ → List ℕ → Bool
-sameEntries n a b = atMost n a b && atMost n b a
+sameEntries n a b = all n (λ j. eqb (at a j) (at b j))

@@ -8,7 +8,7 @@ use Rattle.refusal.specs.declared.Refusal.{Refusal}
 use Rattle.refusal.specs.declared.Outcome.{Outcome}
 use Rattle.refusal.specs.declared.Outcome.the-variants.{Done, Refused}
 use Rattle.refusal.specs.Refusal.{unless}
-use Rattle.clock.specs.Entries.{at, tab, over, all, any, least, zeroEntries, joinEntries, sameEntries}
+use Rattle.clock.specs.Entries.{at, tab, over, all, any, least, zeroEntries, joinEntries, atMost, sameEntries}
 use Rattle.clock.specs.Version.{fitsOf, keptVersion, doneVersion, noVersion}
 use Rattle.clock.specs.Frontier.{keptFrontier, doneFrontier, withCut}
 use Rattle.clock.specs.declared.id.Tested.{Tested}
@@ -117,7 +117,7 @@ abbrev pub diagonal : List Row → ℕ → Bool
 diagonal rows n = all n (λ i. all n (λ j. leb (cell rows i j) (cell rows j j)))
 
 abbrev pub dominate : List Row → ℕ → ℕ → Bool
-dominate rows n own = all n (λ i. all n (λ j. leb (cell rows i j) (cell rows own j)))
+dominate rows n own = all n (λ i. atMost n (rowOf rows i) (rowOf rows own))
 
 abbrev pub validOf : MatrixClock → Tested
 validOf m =

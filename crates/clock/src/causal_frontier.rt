@@ -24,14 +24,14 @@ pub struct FrontierAnswer {
     pub frontier: CausalFrontier,
 }
 
-fn kept(frontier: CausalFrontier, why: Refusal) -> FrontierAnswer
+pub(crate) fn kept(frontier: CausalFrontier, why: Refusal) -> FrontierAnswer
     ensures { λ r. ⌜ r ≡ keptFrontier frontier why ⌝ }
 {
     let outcome = Outcome::Refused(why);
     FrontierAnswer { outcome, frontier }
 }
 
-fn done(frontier: CausalFrontier) -> FrontierAnswer
+pub(crate) fn done(frontier: CausalFrontier) -> FrontierAnswer
     ensures { λ r. ⌜ r ≡ doneFrontier frontier ⌝ }
 {
     FrontierAnswer {
@@ -40,7 +40,7 @@ fn done(frontier: CausalFrontier) -> FrontierAnswer
     }
 }
 
-fn with_row(frontier: CausalFrontier, row: Row) -> CausalFrontier
+pub(crate) fn with_row(frontier: CausalFrontier, row: Row) -> CausalFrontier
     ensures { λ r. ⌜ r ≡ withCut frontier (row .entries) ⌝ }
 {
     let mut r = frontier;

@@ -1,8 +1,10 @@
 // One row per member, each row one entry per member: what we know of what each member has.
+use crate::causal_frontier;
 use crate::causal_frontier::CausalFrontier;
 use crate::causal_frontier::FrontierAnswer;
 use crate::id::ReplicaIdx;
 use crate::id::Tested;
+use crate::version_vector;
 use crate::version_vector::MEMBERS;
 use crate::version_vector::Row;
 use crate::version_vector::Version;
@@ -105,17 +107,15 @@ impl MatrixClock {
     pub fn version_by_idx(self, idx: ReplicaIdx) -> VersionAnswer
         ensures { λ r. ⌜ r ≡ versionAt self (idx .0) ⌝ }
     {
-        let row = self.row(idx);
-        let version = Version {
-            members: self.members,
-            origin: idx,
-            row,
-        };
         match fit(self.members, self.members, self.origin.0, idx.0) {
             Outcome::Refused(why) => Version::refused(why),
             Outcome::Done => {
-                let outcome = Outcome::Done;
-                VersionAnswer { outcome, version }
+                let row = self.row(idx);
+                version_vector::done(Version {
+                    members: self.members,
+                    origin: idx,
+                    row,
+                })
             }
         }
     }
@@ -176,22 +176,11 @@ impl MatrixClock {
         ensures { λ r. ⌜ r ≡ columnWiseMin self last columns ⌝ }
     {
         match fit(self.members, last.members, self.origin.0, self.origin.0) {
-            Outcome::Refused(why) => {
-                let outcome = Outcome::Refused(why);
-                FrontierAnswer {
-                    outcome,
-                    frontier: last,
-                }
-            }
+            Outcome::Refused(why) => causal_frontier::kept(last, why),
             Outcome::Done => {
                 let cut = last.row;
                 let row = settled_cut(self, cut, columns);
-                let mut frontier = last;
-                frontier.row = row;
-                FrontierAnswer {
-                    outcome: Outcome::Done,
-                    frontier,
-                }
+                causal_frontier::done(causal_frontier::with_row(last, row))
             }
         }
     }

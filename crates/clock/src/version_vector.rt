@@ -259,7 +259,7 @@ impl Version {
     }
 
     // No version, and why.
-    pub fn refused(why: Refusal) -> VersionAnswer
+    pub(crate) fn refused(why: Refusal) -> VersionAnswer
         ensures { λ r. ⌜ r ≡ keptVersion noVersion why ⌝ }
     {
         let row = Row::zeros();
@@ -487,7 +487,7 @@ fn kept(version: Version, why: Refusal) -> VersionAnswer
     VersionAnswer { outcome, version }
 }
 
-fn done(version: Version) -> VersionAnswer
+pub(crate) fn done(version: Version) -> VersionAnswer
     ensures { λ r. ⌜ r ≡ doneVersion version ⌝ }
 {
     VersionAnswer {

@@ -11,6 +11,7 @@ use lib.ListN.{length, take, drop, getD, set, length-append, length-set, drop-of
 use lib.Seq.{drop-cons, set-split, take-suc-set, drop-set-lt}
 use lib.Dec.{ltb, eqb}
 use borrow.Author.Tests.{lt-ltb, le-ltb, le-leb, lt-leb}
+use Rattle.refusal.proofs.Cases.{split}
 use Rattle.refusal.specs.Refusal.{no}
 use Rattle.leb128.specs.declared.NumberRead.{NumberRead}
 use Rattle.leb128.specs.declared.NumberRead.the-variants.{Value, Refused}
@@ -19,12 +20,6 @@ use Rattle.leb128.specs.Leb128.{lastNumber, field, valueOf, closed, padd
 
 pub product : (a b m n : ℕ) → a ≤ m → b ≤ n → a * b ≤ m * n
 product a b m n h k = mul-le-mul h k
-
-pub split : (m n : ℕ) → (m < n) ⊎ (n ≤ m)
-split zero zero = inr (omega arith)
-split zero (suc n) = inl (omega arith)
-split (suc m) zero = inr (omega arith)
-split (suc m) (suc n) = ⊎-elim (λ h. inl (omega arith)) (λ h. inr (omega arith)) (split m n)
 
 -- ---- a byte more behind a list
 closed-snoc : (s : List ℕ) (b : ℕ) → closed (s ++ (b ∷ [])) ≡ ltb b 128

@@ -21,6 +21,11 @@ pub enum Written {
     NoRoom(Refusal),
 }
 
+const LAST_NUMBER: u64 = 4294967295;
+
+// What a fifth byte's group counts by: 128 four times over.
+const FIFTH_SCALE: u64 = 268435456;
+
 // A byte as a wide number.
 fn wide(b: u8) -> u64
     ensures { λ r. ⌜ (r ≡ b) × (r < 256) ⌝ }
@@ -34,7 +39,7 @@ fn last(b: u64, next: usize, scale: u64, sum: u64) -> NumberRead
     ensures { λ r. ⌜ r ≡ cond (ltb lastNumber (sum + b * scale) || (eqb b 0 && ltb 1 scale)) (NumberRead.Refused (no 2)) (NumberRead.Value (sum + b * scale) next) ⌝ }
 {
     let value = sum + b * scale;
-    if 4294967295 < value {
+    if LAST_NUMBER < value {
         return NumberRead::Refused(Refusal::BadNumber);
     }
     if b == 0 && 1 < scale {
@@ -59,7 +64,7 @@ pub fn read(s: &[u8], at: usize) -> NumberRead
         if b < 128 {
             return last(b, i, scale, sum);
         }
-        if scale == 268435456 {
+        if scale == FIFTH_SCALE {
             return NumberRead::Refused(Refusal::BadNumber);
         }
         sum += (b - 128) * scale;
