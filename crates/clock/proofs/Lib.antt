@@ -1,4 +1,3 @@
 pub mod Entrywise
-pub mod Rows
 pub mod Matrices
 pub mod Listing

@@ -14,7 +14,7 @@ use Rattle.clock.specs.Version.{entryOf, dependencyId, dependencyAt, dep
 use Rattle.clock.specs.declared.id.EventId.{EventId}
 use Rattle.clock.specs.declared.version_vector.Version.{Version}
 use Rattle.clock.specs.declared.version_vector.Dependencies.{Dependencies}
-use Rattle.clock.proofs.Entrywise.{tab-push}
+use Rattle.lists.proofs.Laws.{tab-push}
 
 -- at most one a place
 pub dependencies-few : (v : Version) (n : ℕ) → length (dependenciesTo n v) ≤ n

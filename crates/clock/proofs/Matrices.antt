@@ -10,13 +10,14 @@ use borrow.Author.Tests.{lt-ltb, ltb-false, leb-false, eqb-true, eq-eqb}
 use Rattle.refusal.specs.declared.Outcome.{Outcome}
 use Rattle.refusal.specs.declared.Outcome.the-variants.{Done, Refused}
 use Rattle.refusal.specs.Refusal.{no, unless}
-use Rattle.clock.specs.Entries.{at, over, all, zeroEntries, atMost, sameEntries}
+use Rattle.lists.specs.Lists.{at, over, all}
+use Rattle.clock.specs.Entries.{zeroEntries, atMost, sameEntries}
 use Rattle.clock.specs.Version.{fitsOf}
 use Rattle.clock.specs.Matrix.{zeroRow, rowOf, cell, diagonal, sameRows, fitsUpdate}
 use Rattle.clock.specs.declared.version_vector.Row.{Row}
 use Rattle.clock.specs.declared.version_vector.Version.{Version}
 use Rattle.clock.specs.declared.matrix_clock.MatrixClock.{MatrixClock}
-use Rattle.clock.proofs.Entrywise.{all-each, all-same, all-clamp, over-at, length-tab}
+use Rattle.lists.proofs.Laws.{all-each, all-same, all-clamp, over-at, length-tab}
 
 -- what is refused in no way has 2 to 16 members, like counts, and its places in the list
 pub record Fits (n m i j : ℕ) : Type 0 where

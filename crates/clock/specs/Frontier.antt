@@ -8,7 +8,8 @@ use Rattle.refusal.specs.declared.Refusal.{Refusal}
 use Rattle.refusal.specs.declared.Outcome.{Outcome}
 use Rattle.refusal.specs.declared.Outcome.the-variants.{Done, Refused}
 use Rattle.refusal.specs.Refusal.{unless}
-use Rattle.clock.specs.Entries.{at, zeroEntries, joinEntries, meetEntries, sumEntries, sameEntries}
+use Rattle.lists.specs.Lists.{at}
+use Rattle.clock.specs.Entries.{zeroEntries, joinEntries, meetEntries, sumEntries, sameEntries}
 use Rattle.clock.specs.Version.{fitsOf, fitsVersion, entriesOrder}
 use Rattle.clock.specs.declared.id.EventId.{EventId}
 use Rattle.clock.specs.declared.id.Tested.{Tested}

@@ -8,7 +8,8 @@ use Rattle.refusal.specs.declared.Refusal.{Refusal}
 use Rattle.refusal.specs.declared.Outcome.{Outcome}
 use Rattle.refusal.specs.declared.Outcome.the-variants.{Done, Refused}
 use Rattle.refusal.specs.Refusal.{unless}
-use Rattle.clock.specs.Entries.{at, tab, over, all, any, least, zeroEntries, joinEntries, atMost, sameEntries}
+use Rattle.lists.specs.Lists.{at, tab, over, all, any, least}
+use Rattle.clock.specs.Entries.{zeroEntries, joinEntries, atMost, sameEntries}
 use Rattle.clock.specs.Version.{fitsOf, keptVersion, doneVersion, noVersion}
 use Rattle.clock.specs.Frontier.{keptFrontier, doneFrontier, withCut}
 use Rattle.clock.specs.declared.id.Tested.{Tested}

@@ -8,7 +8,8 @@ use Rattle.refusal.specs.declared.Refusal.{Refusal}
 use Rattle.refusal.specs.declared.Outcome.{Outcome}
 use Rattle.refusal.specs.declared.Outcome.the-variants.{Done, Refused}
 use Rattle.refusal.specs.Refusal.{no, unless}
-use Rattle.clock.specs.Entries.{at, tab, zeroEntries, joinEntries, meetEntries, atMost, sumEntries, sameEntries}
+use Rattle.lists.specs.Lists.{at, tab}
+use Rattle.clock.specs.Entries.{zeroEntries, joinEntries, meetEntries, atMost, sumEntries, sameEntries}
 use Rattle.clock.specs.declared.id.EventId.{EventId}
 use Rattle.clock.specs.declared.id.Tested.{Tested}
 use Rattle.clock.specs.declared.id.Tested.the-variants as tested

@@ -16,7 +16,8 @@ use refusal::Refusal;
 ghost use mathlib.Core.Path.{_≡_};
 ghost use mathlib.Core.Bool.{cond};
 ghost use Prim.Native.Nat.{_≤_, min};
-ghost use Rattle.clock.specs.Entries.{over, all, zeroEntries, atMost};
+ghost use Rattle.lists.specs.Lists.{over, all};
+ghost use Rattle.clock.specs.Entries.{zeroEntries, atMost};
 ghost use Rattle.clock.specs.Matrix.{rowOf, cell, withRowAt, fitsUpdate, newMatrix, versionAt, setRow, noColumns, raisedOf, setRowIncremental, settled, settledCut, columnWiseMin, validOf, sameRows, sameMatrix, zeroMatrix, keptMatrix, doneMatrix};
 
 pub struct MatrixClock {

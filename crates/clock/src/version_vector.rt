@@ -9,7 +9,8 @@ ghost use mathlib.Core.Path.{_≡_};
 ghost use mathlib.Core.List.{[]};
 ghost use Prim.Native.Nat.{_≤_, min};
 ghost use lib.ListN.{set};
-ghost use Rattle.clock.specs.Entries.{at, pickBy, zeroEntries, joinEntries, meetEntries, mergeEntries, atMost, sumEntries, sameEntries};
+ghost use Rattle.lists.specs.Lists.{at};
+ghost use Rattle.clock.specs.Entries.{pickBy, zeroEntries, joinEntries, meetEntries, mergeEntries, atMost, sumEntries, sameEntries};
 ghost use Rattle.clock.specs.Version.{fitsOf, newVersion, incrementOf, joinOf, meetOf, sumOf, seqOf, setOf, idOf, dependenciesOf, includesOf, compareOf, versionsOrder, numbersOrder, entriesOrder, sameVersion, versionFrom, keptVersion, doneVersion, noVersion, withEntries, dependencies, dependencyId, dependenciesTo};
 
 pub const MEMBERS: usize = 16;

@@ -11,7 +11,7 @@ use lib.ListN.{length, take, drop, getD, set, length-append, length-set, drop-of
 use lib.Seq.{drop-cons, set-split, take-suc-set, drop-set-lt}
 use lib.Dec.{ltb, eqb}
 use borrow.Author.Tests.{lt-ltb, le-ltb, le-leb, lt-leb}
-use Rattle.refusal.proofs.Cases.{split}
+use Rattle.lists.proofs.Cases.{split}
 use Rattle.refusal.specs.Refusal.{no}
 use Rattle.leb128.specs.declared.NumberRead.{NumberRead}
 use Rattle.leb128.specs.declared.NumberRead.the-variants.{Value, Refused}

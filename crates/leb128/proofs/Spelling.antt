@@ -10,7 +10,7 @@ use lib.Seq.{length-take-le, drop-at, getD-take, getD-drop, getD-append-add}
 use lib.Dec.{ltb}
 use borrow.Author.Tests.{lt-ltb, le-ltb, ltb-true, ltb-false, leb-true, eqb-false, ne-eqb}
 use Rattle.refusal.specs.Refusal.{no}
-use Rattle.refusal.proofs.Cases.{split}
+use Rattle.lists.proofs.Cases.{split}
 use Rattle.leb128.specs.declared.NumberRead.{NumberRead}
 use Rattle.leb128.specs.declared.NumberRead.the-variants.{Value, Refused}
 use Rattle.leb128.specs.Leb128.{lastNumber, field, valueOf, closed, padded, fieldRead, readAt, groups, spell, widthOf, fitsAt, bytesAt}

@@ -1,7 +1,8 @@
-use Rattle.clock.specs.Entries.{over, zeroEntries}
+use Rattle.lists.specs.Lists.{over}
+use Rattle.clock.specs.Entries.{zeroEntries}
 use Rattle.clock.specs.Matrix.{cell}
-use Rattle.clock.proofs.Entrywise.{length-tab}
-use Rattle.clock.proofs.Rows.{Making, make-none, make-more, make-all}
+use Rattle.lists.proofs.Laws.{length-tab}
+use Rattle.lists.proofs.Turns.{Making, make-none, make-more, make-all}
 use Prim.Native.Nat.{ℕ, _-_}
 use native.Mathlib.Omega.{arith}
 use mathlib.Core.Path.{_≡_, refl, ap, _∙_}

@@ -1,9 +1,9 @@
 use mathlib.Core.Bool.{false}
 use lib.Dec.{ltb}
-use Rattle.clock.specs.Entries.{at}
+use Rattle.lists.specs.Lists.{at}
 use Rattle.clock.specs.Matrix.{noColumns}
-use Rattle.clock.proofs.Entrywise.{length-tab}
-use Rattle.clock.proofs.Rows.{Making, make-none, make-more, make-all}
+use Rattle.lists.proofs.Laws.{length-tab}
+use Rattle.lists.proofs.Turns.{Making, make-none, make-more, make-all}
 use Prim.Native.Nat.{ℕ, _-_}
 use native.Mathlib.Omega.{arith}
 use borrow.Author.Needs.{needs}

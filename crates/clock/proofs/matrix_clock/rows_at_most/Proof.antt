@@ -1,7 +1,7 @@
 use borrow.Author.Tests.{not-true, not-false}
 use Rattle.clock.specs.Entries.{atMost}
 use Rattle.clock.specs.Matrix.{rowOf}
-use Rattle.clock.proofs.Rows.{Passing, pass-none, pass-more, pass-fails, pass-all}
+use Rattle.lists.proofs.Turns.{Passing, pass-none, pass-more, pass-fails, pass-all}
 use Prim.Native.Nat.{_-_}
 use native.Mathlib.Omega.{arith}
 use mathlib.Core.Path.{_≡_, refl, sym}

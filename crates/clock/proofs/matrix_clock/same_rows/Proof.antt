@@ -1,10 +1,11 @@
 use Prim.Native.Nat.{min, _-_}
 use borrow.Author.Tests.{not-true, not-false}
 use lib.ListN.{length}
-use Rattle.clock.specs.Entries.{all, sameEntries}
+use Rattle.lists.specs.Lists.{all}
+use Rattle.clock.specs.Entries.{sameEntries}
 use Rattle.clock.specs.Matrix.{rowOf, sameRows}
-use Rattle.clock.proofs.Entrywise.{length-mapped}
-use Rattle.clock.proofs.Rows.{Passing, pass-none, pass-more, pass-fails, pass-all}
+use Rattle.lists.proofs.Laws.{length-mapped}
+use Rattle.lists.proofs.Turns.{Passing, pass-none, pass-more, pass-fails, pass-all}
 use Rattle.clock.proofs.Matrices.{same-rows-clamp}
 use native.Mathlib.Omega.{arith}
 use mathlib.Core.Path.{_≡_, refl, sym, _∙_}

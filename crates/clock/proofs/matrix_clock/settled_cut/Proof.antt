@@ -1,7 +1,7 @@
 use lib.ListN.{length}
-use Rattle.clock.specs.Entries.{at, over}
+use Rattle.lists.specs.Lists.{at, over}
 use Rattle.clock.specs.Matrix.{column}
-use Rattle.clock.proofs.Rows.{Making, make-none, make-more, make-all}
+use Rattle.lists.proofs.Turns.{Making, make-none, make-more, make-all}
 use Prim.Native.Nat.{ℕ, _≤_, _-_}
 use native.Mathlib.Omega.{arith}
 use mathlib.Core.Path.{_≡_, refl, ap, _∙_}

@@ -1,5 +1,5 @@
 use Rattle.clock.specs.Matrix.{cell, settled}
-use Rattle.clock.proofs.Rows.{Scanning, scan-none, scan-more, scan-found, scan-all}
+use Rattle.lists.proofs.Turns.{Scanning, scan-none, scan-more, scan-found, scan-all}
 use Prim.Native.Nat.{ℕ, _-_}
 use native.Mathlib.Omega.{arith}
 use mathlib.Core.Path.{_≡_, refl, sym, ap, _∙_}

@@ -2,9 +2,9 @@ use mathlib.Core.Path.{_≡_, ap, _∙_}
 use mathlib.Core.List.{List}
 use Prim.Native.Nat.{ℕ}
 use Rattle.clock.specs.declared.version_vector.Row.{Row}
-use Rattle.clock.specs.Entries.{tab}
+use Rattle.lists.specs.Lists.{tab}
 use Rattle.clock.specs.Matrix.{zeroRow}
-use Rattle.clock.proofs.Entrywise.{tab-same}
+use Rattle.lists.proofs.Laws.{tab-same}
 use borrow.Author.Needs.{needs}
 use Rattle.clock.proofs.matrix_clock.zero_matrix.Statement.{statement}
 use Rattle.clock.proofs.matrix_clock.zero_matrix.Tie as tie

@@ -1,7 +1,8 @@
 use Prim.Native.Nat.{min, _-_}
-use Rattle.clock.specs.Entries.{at, pickBy}
-use Rattle.clock.proofs.Entrywise.{over-clamp}
-use Rattle.clock.proofs.Rows.{Making, make-none, make-more, make-all}
+use Rattle.lists.specs.Lists.{at}
+use Rattle.clock.specs.Entries.{pickBy}
+use Rattle.lists.proofs.Laws.{over-clamp}
+use Rattle.lists.proofs.Turns.{Making, make-none, make-more, make-all}
 use lib.ListN.{length}
 use native.Mathlib.Omega.{arith}
 use mathlib.Core.Path.{_≡_, _∙_}

@@ -2,7 +2,7 @@ use mathlib.Core.Path.{ap}
 use mathlib.Core.List.{List}
 use Rattle.clock.specs.declared.id.EventId.{EventId}
 use Rattle.clock.specs.Version.{noId}
-use Rattle.clock.proofs.Entrywise.{tab-same}
+use Rattle.lists.proofs.Laws.{tab-same}
 use Rattle.clock.proofs.version_vector.no_dependencies.Statement.{statement}
 use Rattle.clock.proofs.version_vector.no_dependencies.Tie as tie
 

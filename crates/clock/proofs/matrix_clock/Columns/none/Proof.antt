@@ -1,5 +1,5 @@
 use mathlib.Core.Bool.{false}
-use Rattle.clock.proofs.Entrywise.{tab-same}
+use Rattle.lists.proofs.Laws.{tab-same}
 use Rattle.clock.proofs.matrix_clock.Columns.none.Statement.{statement}
 use Rattle.clock.proofs.matrix_clock.Columns.none.Tie as tie
 

@@ -4,7 +4,7 @@ use mathlib.Core.List.{[]}
 use lib.ListN.{length, List·getD-eq-default}
 use Rattle.clock.specs.declared.version_vector.Row.{Row}
 use Rattle.clock.specs.Matrix.{zeroRow}
-use Rattle.clock.proofs.Entrywise.{getD-any, length-mapped}
+use Rattle.lists.proofs.Laws.{getD-any, length-mapped}
 use borrow.Author.Needs.{needs}
 use Rattle.clock.proofs.matrix_clock.MatrixClock.row.Statement.{statement}
 use Rattle.clock.proofs.matrix_clock.MatrixClock.row.Tie as tie

@@ -2,7 +2,7 @@ use native.Mathlib.Omega.{arith}
 use mathlib.Core.Path.{_≡_}
 use lib.ListN.{length}
 use lib.Seq.{set-out}
-use Rattle.clock.proofs.Entrywise.{length-mapped}
+use Rattle.lists.proofs.Laws.{length-mapped}
 use borrow.Author.Needs.{needs}
 use Rattle.clock.proofs.matrix_clock.MatrixClock.with_row.Statement.{statement}
 use Rattle.clock.proofs.matrix_clock.MatrixClock.with_row.Tie as tie

@@ -1,9 +1,9 @@
 use Prim.Native.Nat.{min, _-_}
 use lib.Dec.{leb}
 use borrow.Author.Tests.{le-leb, lt-leb}
-use Rattle.clock.specs.Entries.{at}
+use Rattle.lists.specs.Lists.{at}
 use Rattle.clock.proofs.Entrywise.{at-most-clamp}
-use Rattle.clock.proofs.Rows.{Passing, pass-none, pass-more, pass-fails, pass-all}
+use Rattle.lists.proofs.Turns.{Passing, pass-none, pass-more, pass-fails, pass-all}
 use lib.ListN.{length}
 use native.Mathlib.Omega.{arith}
 use mathlib.Core.Path.{_≡_, sym, _∙_}

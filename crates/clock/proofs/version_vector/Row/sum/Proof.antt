@@ -1,7 +1,8 @@
 use Prim.Native.Nat.{min, _-_}
-use Rattle.clock.specs.Entries.{at}
-use Rattle.clock.proofs.Entrywise.{sum-clamp, past-end}
-use Rattle.clock.proofs.Rows.{Summing, sum-none, sum-one, sum-all}
+use Rattle.lists.specs.Lists.{at}
+use Rattle.lists.proofs.Laws.{sum-clamp}
+use Rattle.clock.proofs.Entrywise.{past-end}
+use Rattle.lists.proofs.Turns.{Summing, sum-none, sum-one, sum-all}
 use lib.ListN.{length}
 use native.Mathlib.Omega.{arith}
 use mathlib.Core.Path.{_≡_, _∙_}

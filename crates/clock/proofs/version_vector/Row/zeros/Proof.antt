@@ -1,4 +1,4 @@
-use Rattle.clock.proofs.Entrywise.{tab-same}
+use Rattle.lists.proofs.Laws.{tab-same}
 use Rattle.clock.proofs.version_vector.Row.zeros.Statement.{statement}
 use Rattle.clock.proofs.version_vector.Row.zeros.Tie as tie
 

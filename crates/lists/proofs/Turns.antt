@@ -1,4 +1,4 @@
--- What the loops over rows keep, turn by turn, whatever they make or test. Assumes nothing.
+-- What loops over places keep, turn by turn, whatever they make or test. Assumes nothing.
 use mathlib.Core.Path.{_≡_, refl, sym, ap, _∙_}
 use mathlib.Core.Bool.{Bool, true, false, cond}
 use mathlib.Core.List.{List}
@@ -8,8 +8,8 @@ use native.Mathlib.Omega.{arith}
 use lib.ListN.{length, set}
 use lib.Dec.{eqb}
 use borrow.Author.Tests.{eq-eqb, ne-eqb}
-use Rattle.clock.specs.Entries.{at, all, any, sum, least, over, sumEntries}
-use Rattle.clock.proofs.Entrywise.{over-none, over-more, all-more, all-fails, any-found, sum-more}
+use Rattle.lists.specs.Lists.{at, all, any, sum, least, over}
+use Rattle.lists.proofs.Laws.{over-none, over-more, all-more, all-fails, any-found, sum-more}
 
 -- ---- a list whose first i elements, of n, are made f 0, f 1, ..
 
@@ -58,7 +58,7 @@ pub record Summing (a : List ℕ) (n i total : ℕ) : Type 0 where
   pub few : n ≤ 16
   pub within : i ≤ n
   pub small : total ≤ 4294967295 * i
-  pub so-far : total ≡ sumEntries i a
+  pub so-far : total ≡ sum i (at a)
 
 module _ {a : List ℕ} {n : ℕ} where
   pub sum-none : n ≤ 16 → Summing a n 0 0
@@ -73,8 +73,8 @@ module _ {a : List ℕ} {n : ℕ} where
     so-far = ap (λ (t : ℕ). t + at a i) (M .so-far) ∙ sym (sum-more i (at a));
   }
 
-  pub sum-all : {i total : ℕ} → Summing a n i total → n ≤ i → total ≡ sumEntries n a
-  sum-all {i} {total} M h = let e : i ≡ n = omega (arith, M .within) in M .so-far ∙ ap (λ (k : ℕ). sumEntries k a) e
+  pub sum-all : {i total : ℕ} → Summing a n i total → n ≤ i → total ≡ sum n (at a)
+  sum-all {i} {total} M h = let e : i ≡ n = omega (arith, M .within) in M .so-far ∙ ap (λ (k : ℕ). sum k (at a)) e
 
 -- ---- a column of n rows, f 0, f 1, .., scanned as far as i: none is x so far, and low is the least
 
