@@ -15,7 +15,7 @@ use Rattle.lists.proofs.Cases.{split}
 use Rattle.refusal.specs.Refusal.{no}
 use Rattle.leb128.specs.declared.NumberRead.{NumberRead}
 use Rattle.leb128.specs.declared.NumberRead.the-variants.{Value, Refused}
-use Rattle.leb128.specs.declared.Written.the-variants.{Next, NoRoom}
+use Rattle.leb128.specs.declared.Written.the-variants as written
 use Rattle.leb128.specs.Leb128.{lastNumber, field, valueOf, closed, padded, fieldRead, readAt, groups, spell, widthOf, Wrote}
 
 pub product : (a b m n : ℕ) → a ≤ m → b ≤ n → a * b ≤ m * n
@@ -231,9 +231,9 @@ pub put-last : {before now : List ℕ} {at value i n : ℕ} → Putting before n
 put-last {now = now} {i = i} {n = n} r h = set-split now i n (put-room r) ∙ sym (r .same ∙ rw (narrow (r .more) n h, add-one))
 
 -- ---- what a call of write ends with
-pub no-room : (out : List ℕ) (at n : ℕ) → length out < at + widthOf n → Wrote out out at n (NoRoom (no 15))
+pub no-room : (out : List ℕ) (at n : ℕ) → length out < at + widthOf n → Wrote out out at n (written.Refused (no 15))
 no-room out at n h = let f = lt-leb (at + widthOf n) (length out) h in record { answers = rw f; holds = rw f }
 
 pub wrote : (out after : List ℕ) (at n w : ℕ) → at + widthOf n ≤ length out → w ≡ widthOf n → after ≡ take at out ++ (spell n ++ drop (at + widthOf n) out)
-    → Wrote out after at n (Next (at + w))
+    → Wrote out after at n (written.Next (at + w))
 wrote out after at n w h e a = let f = le-leb (at + widthOf n) (length out) h in record { answers = rw (f, e); holds = rw f a }

@@ -178,6 +178,27 @@ only-spelling s at n next t e =
       range = omega (arith, w .value, w .most);
     }
 
+field-within : (k : ℕ) (s : List ℕ) → length (field k s) ≤ length s
+unfolding field
+field-within zero s = omega arith
+field-within (suc k) [] = omega arith
+field-within (suc k) (b ∷ s) = pick (ltb b 128) (field-within k s)
+  where
+    pick : (t : Bool) → length (field k s) ≤ length s → suc (length (cond t [] (field k s))) ≤ suc (length s)
+    pick true h = omega arith
+    pick false h = omega arith
+
+closed-some : (f : List ℕ) → closed f ≡ true → 1 ≤ length f
+unfolding closed
+closed-some [] c = clash (sym c)
+closed-some (b ∷ f) c = omega arith
+
+-- a number that is read ends inside the bytes
+pub read-inside : (s : List ℕ) (at n next : ℕ) → readAt s at ≡ Value n next → next ≤ length s
+read-inside s at n next e =
+    let w = read-value (field 5 (drop at s)) at n next e in
+    omega (arith, w .place, closed-some (field 5 (drop at s)) (w .whole), field-within 5 (drop at s), length-drop at s)
+
 -- ---- where the bytes end inside a field
 -- every byte has the high bit
 abbrev High : List ℕ → Type 0

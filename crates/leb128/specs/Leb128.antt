@@ -10,7 +10,7 @@ use Rattle.refusal.specs.Refusal.{no}
 use Rattle.leb128.specs.declared.NumberRead.{NumberRead}
 use Rattle.leb128.specs.declared.NumberRead.the-variants.{Value, Refused}
 use Rattle.leb128.specs.declared.Written.{Written}
-use Rattle.leb128.specs.declared.Written.the-variants.{Next, NoRoom}
+use Rattle.leb128.specs.declared.Written.the-variants as written
 
 -- ---- reading
 
@@ -72,7 +72,7 @@ fitsAt out at n = leb (at + widthOf n) (length out)
 
 -- what writing a number at a place answers: the place behind it, or 15 where the buffer is too short
 abbrev pub writeAt : List ℕ → ℕ → ℕ → Written
-writeAt out at n = cond (fitsAt out at n) (Next (at + widthOf n)) (NoRoom (no 15))
+writeAt out at n = cond (fitsAt out at n) (written.Next (at + widthOf n)) (written.Refused (no 15))
 
 -- what the buffer then holds: the number's bytes in their place, and every other byte as it was
 abbrev pub bytesAt : List ℕ → ℕ → ℕ → List ℕ

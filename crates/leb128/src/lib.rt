@@ -15,10 +15,10 @@ pub enum NumberRead {
     Refused(Refusal),
 }
 
-// Where writing a number ended, or that the buffer is too short.
+// The place behind what was written, or why nothing was.
 pub enum Written {
     Next(usize),
-    NoRoom(Refusal),
+    Refused(Refusal),
 }
 
 const LAST_NUMBER: u64 = 4294967295;
@@ -113,10 +113,10 @@ pub fn write(out: &mut [u8], at: usize, value: u32) -> Written
 {
     let count = width(value);
     if out.len() < count {
-        return Written::NoRoom(Refusal::BufferShort);
+        return Written::Refused(Refusal::BufferShort);
     }
     if out.len() - count < at {
-        return Written::NoRoom(Refusal::BufferShort);
+        return Written::Refused(Refusal::BufferShort);
     }
     put(out, at, value);
     Written::Next(at + count)

@@ -162,7 +162,7 @@ fn filled(bytes: [u8; 8], count: usize) -> [u8; 16] {
 fn is_written(value: u32, count: usize, whole: &[u8]) -> bool {
     let mut out = [0xAAu8; 16];
     match leb128::write(&mut out, 3, value) {
-        Written::NoRoom(_) => false,
+        Written::Refused(_) => false,
         Written::Next(next) => {
             if next < 3 {
                 return false;

@@ -1,6 +1,6 @@
 -- The laws of `specs/Lists.antt`. Assumes nothing.
 use mathlib.Core.Path.{_≡_, refl, sym, ap, _∙_}
-use mathlib.Core.Bool.{Bool, true, false, cond, and-true, and-false, or-true}
+use mathlib.Core.Bool.{Bool, true, false, cond, not, _&&_, and-true, and-false, or-true}
 use mathlib.Core.Logic.{_⊎_, inl, inr, ⊎-elim}
 use mathlib.Core.List.{List, [], _∷_, _++_, map}
 use Prim.Native.Nat.{ℕ, zero, suc, _+_, _≤_, _<_, min, zero-le}
@@ -9,9 +9,9 @@ use native.Mathlib.Numerals.{add-one}
 use native.Mathlib.Omega.{arith}
 use lib.ListN.{length, getD, set, replicate, length-set, length-map, length-append, List·getD-append, length-replicate, getD-replicate, List·getD-eq-default}
 use lib.Seq.{ext-getD, getD-append-seam, getD-set-same, getD-set-other}
-use lib.Dec.{ltb}
-use borrow.Author.Tests.{lt-ltb, le-ltb}
-use Rattle.lists.specs.Lists.{tab, over, all, any, sum}
+use lib.Dec.{ltb, leb}
+use borrow.Author.Tests.{lt-ltb, le-ltb, le-leb, lt-leb, not-true, not-false}
+use Rattle.lists.specs.Lists.{tab, over, all, any, sum, chain}
 use Rattle.lists.proofs.Cases.{split}
 
 -- ---- tab
@@ -164,3 +164,51 @@ tab-push {A} d n l x h =
     place k lt (inr b) (inr a) =
         let e : k ≡ length l = omega arith in
         rw e (getD-set-same (tab n (λ j. getD l j d)) (length l) x d (omega (arith, length-tab n (λ j. getD l j d))) ∙ sym (getD-append-seam l x [] d))
+
+-- ---- chain
+
+module _ {A : Type 0} where
+  pub chain-more : (i : ℕ) (f : ℕ → List A) → chain (i + 1) f ≡ chain i f ++ f i
+  unfolding chain
+  chain-more i f = rw add-one refl
+
+  -- what is made of the first places and one more is part of the whole
+  pub chain-room : (i n : ℕ) (f : ℕ → List A) → i < n → length (chain i f) + length (f i) ≤ length (chain n f)
+  unfolding chain
+  chain-room i zero f h = absurd (not-suc-le-zero h)
+  chain-room i (suc n) f h =
+      ⊎-elim (λ g. omega (arith, chain-room i n f g, length-append (chain n f) (f n)))
+      (λ (g : n ≤ i). let e : n ≡ i = omega arith in rw e (omega (arith, length-append (chain i f) (f i))))
+      (split i n)
+
+  -- functions that agree below n
+  pub chain-same : (n : ℕ) (f g : ℕ → List A) → ((j : ℕ) → j < n → f j ≡ g j) → chain n f ≡ chain n g
+  unfolding chain
+  chain-same zero f g h = refl
+  chain-same (suc n) f g h = rw (chain-same n f g (λ j lt. h j (omega arith)), h n (omega arith)) refl
+
+-- ---- tests
+
+-- a test that passes below n passes at each place there
+pub all-at : (n i : ℕ) (p : ℕ → Bool) → all n p ≡ true → i < n → p i ≡ true
+all-at n i p h lt = pick (p i) refl
+  where
+    pick : (t : Bool) → p i ≡ t → p i ≡ true
+    pick true e = e
+    pick false e = let z : _≡_ {A = ℕ} 0 1 = (let y = all-fails n i p lt e in cc) in absurd (omega arith)
+
+-- two tests that both pass
+pub and-both : (a b : Bool) → (a && b) ≡ true → (a ≡ true) × (b ≡ true)
+and-both true b e = (refl, e)
+and-both false b e = let z : _≡_ {A = ℕ} 0 1 = cc in absurd (omega arith)
+
+-- what an answer says of the test that it tells, where its negation was tested
+pub answered-no : {r t : Bool} → r ≡ t → not r ≡ true → t ≡ false
+answered-no {r} e n = sym e ∙ not-true r n
+
+pub answered-yes : {r t : Bool} → r ≡ t → not r ≡ false → t ≡ true
+answered-yes {r} e n = sym e ∙ not-false r n
+
+-- comparisons that hold together
+pub leb-same : (a b m n : ℕ) → (a ≤ b → m ≤ n) → (b < a → n < m) → leb a b ≡ leb m n
+leb-same a b m n h g = ⊎-elim (λ l. lt-leb a b l ∙ sym (lt-leb m n (g l))) (λ l. le-leb a b l ∙ sym (le-leb m n (h l))) (split b a)

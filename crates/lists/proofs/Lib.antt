@@ -1,3 +1,5 @@
 pub mod Cases
 pub mod Laws
 pub mod Turns
+pub mod Joined
+pub mod Stands

@@ -1,7 +1,7 @@
 -- Lists by place, over a count. Assumes nothing.
 use Prim.Native.Nat.{ℕ, zero, suc, _+_, min}
 use mathlib.Core.Bool.{Bool, true, false, cond, _&&_, _||_}
-use mathlib.Core.List.{List, [], _∷_}
+use mathlib.Core.List.{List, [], _∷_, _++_}
 use lib.ListN.{length, getD}
 use lib.Dec.{ltb}
 
@@ -36,3 +36,8 @@ sum (suc k) f = sum k f + f k
 unfoldable pub least : ℕ → (ℕ → ℕ) → ℕ
 least zero f = f 0
 least (suc k) f = min (least k f) (f (suc k))
+
+-- f 0, f 1, .. f (n - 1), one behind the other
+unfoldable pub chain : {A : Type 0} → ℕ → (ℕ → List A) → List A
+chain zero f = []
+chain (suc k) f = chain k f ++ f k

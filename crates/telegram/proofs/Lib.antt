@@ -1,0 +1,14 @@
+pub mod Told
+pub mod Parts
+pub mod Inside
+pub mod Walks
+pub mod Fair
+pub mod Filled
+pub mod Steps
+pub mod Laying
+pub mod Widths
+pub mod Spelt
+pub mod Accepted
+pub mod RoundTrip
+pub mod OneSpelling
+pub mod Lengths
