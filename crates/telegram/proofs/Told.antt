@@ -7,7 +7,7 @@ use Rattle.refusal.specs.declared.Refusal.{Refusal}
 use Rattle.refusal.specs.declared.Outcome.{Outcome}
 use Rattle.refusal.specs.declared.Outcome.the-variants.{Done, Refused}
 use Rattle.telegram.specs.Fields.{Got, got, bad}
-use Rattle.telegram.specs.Reading.{Whole, whole, refused, list, entries, body, head, eventForm, batchForm, sinceForm, listRead, entriesRead, bodyRead, headRead, eventRead, batchRead, sinceRead}
+use Rattle.telegram.specs.Reading.{Whole, whole, refused, list, entries, body, head, eventForm, batchForm, sinceForm, listRead, entriesRead, bodyRead, headRead, eventRead, batchRead, sinceRead, exceptionTold}
 use Rattle.telegram.specs.declared.list.Names.{Names}
 use Rattle.telegram.specs.declared.list.ListRead.{ListRead}
 use Rattle.telegram.specs.declared.body.Body.{Body}
@@ -21,6 +21,9 @@ use Rattle.telegram.specs.declared.batch.Batch.{Batch}
 use Rattle.telegram.specs.declared.batch.BatchRead.{BatchRead}
 use Rattle.telegram.specs.declared.since.Since.{Since}
 use Rattle.telegram.specs.declared.since.SinceRead.{SinceRead}
+use Rattle.telegram.specs.declared.since.ExceptionRead.{ExceptionRead}
+use Rattle.telegram.specs.declared.since.ExceptionRead.the-variants as exceptionRead
+use native.Mathlib.Omega.{arith}
 
 -- ---- a thing and the place behind it
 
@@ -118,3 +121,11 @@ batch-whole {r} s e o = sym (batch-told s e) ∙ ap (λ (k : Outcome). unless k 
 
 pub since-whole : {r : SinceRead} (s : List ℕ) → r ≡ sinceRead (sinceForm s) → r .outcome ≡ Done → sinceForm s ≡ whole (r .since)
 since-whole {r} s e o = sym (since-told s e) ∙ ap (λ (k : Outcome). unless k refused (whole (r .since))) o
+
+-- ---- no second outcome fits an exception that is told
+
+pub one-exception : (a b : ExceptionRead) → exceptionTold a ≡ exceptionTold b → a ≡ b
+one-exception (exceptionRead.Found e m) (exceptionRead.Found f n) h = cc
+one-exception (exceptionRead.Found e m) (exceptionRead.Refused k) h = let z : _≡_ {A = ℕ} 0 1 = cc in absurd (omega arith)
+one-exception (exceptionRead.Refused k) (exceptionRead.Found f n) h = let z : _≡_ {A = ℕ} 0 1 = cc in absurd (omega arith)
+one-exception (exceptionRead.Refused k) (exceptionRead.Refused l) h = cc

@@ -112,7 +112,7 @@ fn read_form(s: &[u8]) -> BatchRead
     }
 }
 
-// A batch telegram: a walk over the bodies decides every refusal of their form.
+// What a batch telegram says, or why it is refused: a walk over the bodies decides every refusal of their form.
 pub fn read_batch(s: &[u8]) -> BatchRead
     ensures { λ r. ⌜ r ≡ batchRead (batch (now (s .entry))) ⌝ }
 {

@@ -83,7 +83,7 @@ fn read_form(s: &[u8]) -> EventRead
     }
 }
 
-// An event telegram.
+// What an event telegram says, or why it is refused.
 pub fn read_event(s: &[u8]) -> EventRead
     ensures { λ r. ⌜ r ≡ eventRead (event (now (s .entry))) ⌝ }
 {

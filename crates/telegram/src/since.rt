@@ -144,7 +144,7 @@ fn read_form(s: &[u8]) -> SinceRead
     }
 }
 
-// A since telegram.
+// What a since telegram says, or why it is refused.
 pub fn read_since(s: &[u8]) -> SinceRead
     ensures { λ r. ⌜ r ≡ sinceRead (since (now (s .entry))) ⌝ }
 {
