@@ -1,14 +1,10 @@
 -- How long a telegram can be: 393 bytes an event, 30,821 a batch, 740 a since, and each is reached. Assumes nothing.
 use mathlib.Core.Path.{_≡_, refl, ap, _∙_}
-use mathlib.Core.Bool.{true}
 use mathlib.Core.Logic.{⊎-elim}
-use mathlib.Core.List.{List, [], _∷_, _++_}
+use mathlib.Core.List.{List, [], _++_}
 use Prim.Native.Nat.{ℕ, suc, _+_, _*_, _/_, _≤_, _<_}
 use native.Mathlib.Omega.{arith}
 use lib.ListN.{length, getD, replicate, length-append, length-take, length-replicate}
-use lib.Dec.{leb, ltb}
-use borrow.Author.Tests.{leb-true, ltb-true}
-use Rattle.refusal.specs.Refusal.{no}
 use Rattle.lists.specs.Lists.{tab, all, chain}
 use Rattle.lists.proofs.Cases.{split}
 use Rattle.lists.proofs.Laws.{getD-tab}
@@ -16,19 +12,19 @@ use Rattle.lists.proofs.Joined.{at-each, each-same, joined, chain-joined, joine
 use Rattle.leb128.specs.Leb128.{groups, spell, widthOf, lastNumber}
 use Rattle.leb128.proofs.Laws.{width-one, width-more}
 use Rattle.leb128.proofs.Spelling.{width-range}
-use Rattle.telegram.specs.Reading.{Whole, whole, texts, fair, fairAt, fairBytes, sameBytes}
+use Rattle.telegram.specs.Reading.{whole, texts, fair, fairAt, fairBytes, sameBytes}
 use Rattle.telegram.specs.Meaning.{EventBody, EventTelegram, BatchTelegram, SinceTelegram, Heading, bodyOf, headingOf, sizedBytes, listBytes, versionBytes, bodyBytes, headBytes, exceptionBytes, eventBytes, batchBytes, sinceBytes, GoodList, GoodVersion, GoodBody, GoodHeading, GoodException, GoodEvent, GoodBatch, GoodSince}
-use Rattle.telegram.specs.Writing.{partFits, listFits, listSpelt, bodySpelt, eventSpelt, headSpelt, exceptionSpelt}
+use Rattle.telegram.specs.Writing.{bodySpelt, eventSpelt, headSpelt, exceptionSpelt}
 use Rattle.telegram.specs.declared.list.Names.{Names}
 use Rattle.telegram.specs.declared.body.Body.{Body}
 use Rattle.telegram.specs.declared.head.Head.{Head}
 use Rattle.telegram.specs.declared.since.Exception.{Exception}
 use Rattle.telegram.proofs.Filled.{count-texts}
-use Rattle.telegram.proofs.Steps.{whole-same, then-is, if-whole}
-use Rattle.telegram.proofs.Parts.{fits-list, fits-part, length-name, length-text}
+use Rattle.telegram.proofs.Parts.{ListIs, length-name, length-text}
 use Rattle.telegram.proofs.Accepted.{each-or-none}
 use Rattle.telegram.proofs.RoundTrip.{bodies-joined, exceptions-joined}
-use Rattle.telegram.proofs.OneSpelling.{allSpelt, headThen}
+use Rattle.telegram.proofs.OneSpelling.{headThen}
+use Rattle.telegram.proofs.WrittenRead.{BodyFits, Follows, eventFrom, event-written, batch-written, since-written}
 
 -- ---- pieces
 
@@ -95,11 +91,14 @@ good-body b h g = body-most b (omega (arith, g .listed)) (omega (arith, g .versi
 good-head : (k : ℕ) (h : Heading) (count : ℕ) → k < 128 → GoodHeading h → length (headBytes k h count) ≤ 355 + widthOf count
 good-head k h count lk g = head-most k h count lk (good-list (g .list)) (omega (arith, g .listed, g .list .few)) (omega (arith, g .version .one-each, g .list .few))
 
-pub event-most : (t : EventTelegram) → GoodEvent t → length (eventBytes t) ≤ 393
+event-bytes-most : (t : EventTelegram) → ShortList (t .names) → length (bodyBytes (t .body)) ≤ 119 → length (eventBytes t) ≤ 393
 unfolding eventBytes
-event-most t g =
+event-bytes-most t l b =
     rw (length-append (spell 1) (listBytes (t .names) ++ bodyBytes (t .body)), length-append (listBytes (t .names)) (bodyBytes (t .body)))
-    (omega (arith, width-small 1 (omega arith), list-most (t .names) (good-list (g .list)), good-body (t .body) (g .list .few) (g .body)))
+    (omega (arith, width-small 1 (omega arith), list-most (t .names) l, b))
+
+pub event-most : (t : EventTelegram) → GoodEvent t → length (eventBytes t) ≤ 393
+event-most t g = event-bytes-most t (good-list (g .list)) (good-body (t .body) (g .list .few) (g .body))
 
 pub batch-most : (t : BatchTelegram) → GoodBatch t → length (batchBytes t) ≤ 30821
 unfolding batchBytes
@@ -127,90 +126,47 @@ since-most t g =
 
 -- ---- what is written, whatever the numbers are
 
-listed-short : (s : List ℕ) (l : Names) → listFits s l ≡ true → ShortList (texts s l)
-listed-short s l e =
-    let i = fits-list s l e in
+listed-short : {s : List ℕ} {l : Names} → ListIs s l → ShortList (texts s l)
+listed-short {s} {l} i =
     let c = count-texts s l in
     record { few = omega (arith, c, i .few); short = λ j lt. omega (arith, length-name i j (omega (arith, c)), i .parts j (omega (arith, c)) .most) }
 
-list-written-most : (s : List ℕ) (l : Names) (x : List ℕ) → listSpelt s l ≡ whole x → length x ≤ 273
-unfolding listSpelt
-list-written-most s l x e =
-    let i = if-whole (listFits s l) (whole (listBytes (texts s l))) (no 4) e in
-    rw (← whole-same (i .1)) (list-most (texts s l) (listed-short s l (i .0)))
+fits-most : (count : ℕ) (s : List ℕ) (b : Body) → BodyFits count s b → length (bodyBytes (bodyOf count s b)) ≤ 119
+fits-most count s b f =
+    body-most (bodyOf count s b) (omega (arith, f .few, f .listed)) (omega (arith, f .few, length-take count (b .entries)))
+    (omega (arith, length-text s (b .operation) (f .operation .within), f .operation .most))
 
-body-written-most : (count : ℕ) (s : List ℕ) (b : Body) (x : List ℕ) → bodySpelt count s b ≡ whole x → length x ≤ 119
-unfolding bodySpelt
-body-written-most count s b x e =
-    let i = if-whole (leb count 16) _ (no 4) e in
-    let j = if-whole (ltb (b .place .0) count) _ (no 9) (i .1) in
-    let k = if-whole (partFits 0 32 s (b .operation)) (whole (bodyBytes (bodyOf count s b))) (no 4) (j .1) in
-    let few = leb-true count 16 (i .0) in
-    let o = fits-part 0 32 s (b .operation) (k .0) in
-    rw (← whole-same (k .1))
-    (body-most (bodyOf count s b) (omega (arith, ltb-true (b .place .0) count (j .0))) (omega (arith, length-take count (b .entries)))
-    (omega (arith, length-text s (b .operation) (o .within), o .most)))
-
-exception-written-most : (count : ℕ) (e : Exception) (x : List ℕ) → exceptionSpelt count e ≡ whole x → length x ≤ 6
-unfolding exceptionSpelt
-exception-written-most count e x h =
-    let i = if-whole (leb count 16) _ (no 4) h in
-    let j = if-whole (ltb (e .place .0) count) (whole (exceptionBytes e)) (no 9) (i .1) in
-    rw (← whole-same (j .1)) (exception-most e (omega (arith, leb-true count 16 (i .0), ltb-true (e .place .0) count (j .0))))
-
-head-written-most : (k limit : ℕ) (s : List ℕ) (h : Head) (count : ℕ) (x : List ℕ) → k < 128 → headSpelt k limit s h count ≡ whole x
-    → (count ≤ limit) × (length x ≤ 355 + widthOf count)
-unfolding headSpelt
-head-written-most k limit s h count x lk e =
-    let i = if-whole (listFits s (h .names)) _ (no 4) e in
-    let j = if-whole (ltb (h .sender .0) (h .names .count)) _ (no 9) (i .1) in
-    let m = if-whole (leb count limit) (whole (headBytes k (headingOf s h) count)) (no 4) (j .1) in
-    let few = fits-list s (h .names) (i .0) .few in (
-      leb-true count limit (m .0),
-      rw (← whole-same (m .1))
-          (head-most k (headingOf s h) count lk (listed-short s (h .names) (i .0)) (omega (arith, ltb-true (h .sender .0) (h .names .count) (j .0)))
-          (omega (arith, length-take (h .names .count) (h .entries)))),
-    )
-
-all-written-most : {A : Type 0} (f : A → Whole (List ℕ)) (most : ℕ) → ((a : A) (x : List ℕ) → f a ≡ whole x → length x ≤ most)
-    → (l : List A) (rest : List ℕ) → allSpelt f l ≡ whole rest → length rest ≤ length l * most
-unfolding allSpelt
-all-written-most f most h [] rest e = rw (← whole-same e) (omega arith)
-all-written-most f most h (a ∷ l) rest e =
-    then-is (f a) _ e (λ x ea e1.
-    then-is (allSpelt f l) _ e1 (λ more el e2.
-    rw (← whole-same e2) (omega (arith, length-append x more, h a x ea, all-written-most f most h l more el))))
+follows-most : {A : Type 0} {k limit : ℕ} {s : List ℕ} {h : Head} {count : ℕ} {spelt : A → List ℕ} {Fit : A → Type 0} {l : List A} {bytes : List ℕ}
+    → Follows k limit s h count spelt Fit l bytes → k < 128 → (most : ℕ) → ((a : A) → Fit a → length (spelt a) ≤ most)
+    → length bytes ≤ 355 + widthOf count + length l * most
+follows-most {k = k} {s = s} {h} {count} {spelt} {l = l} w lk most each =
+    let n = h .names .count in
+    rw (w .same, length-append (headBytes k (headingOf s h) count) (joined spelt l))
+    (omega (
+      arith,
+      head-most k (headingOf s h) count lk (listed-short (w .list)) (omega (arith, w .listed, w .list .few)) (omega (arith, length-take n (h .entries), w .list .few)),
+      joined-most spelt most l (λ a m. each a (w .fit a m)),
+    ))
 
 -- the names of t, the body of s
 pub event-written-most : (t : List ℕ) (l : Names) (s : List ℕ) (b : Body) (bytes : List ℕ) → eventSpelt t l s b ≡ whole bytes → length bytes ≤ 393
-unfolding eventSpelt
 event-written-most t l s b bytes e =
-    then-is (listSpelt t l) _ e (λ names el e1.
-    then-is (bodySpelt (l .count) s b) _ e1 (λ body eb e2.
-    rw (← whole-same e2, length-append (spell 1) (names ++ body), length-append names body)
-    (omega (arith, width-small 1 (omega arith), list-written-most t l names el, body-written-most (l .count) s b body eb))))
+    let w = event-written t l s b bytes e in
+    rw (w .0) (event-bytes-most (eventFrom t l s b) (listed-short (w .1 .0)) (fits-most (l .count) s b (w .1 .1)))
 
 -- a head and as many bodies as it counts or fewer, each a part of its own bytes
 pub batch-written-most : (s : List ℕ) (h : Head) (count : ℕ) (l : List (List ℕ × Body)) (bytes : List ℕ) → length l ≤ count
     → headThen (headSpelt 2 256 s h count) (λ p. bodySpelt (h .names .count) (p .0) (p .1)) l ≡ whole bytes → length bytes ≤ 30821
 batch-written-most s h count l bytes few e =
-    then-is (headSpelt 2 256 s h count) _ e (λ start eh e1.
-    then-is (allSpelt (λ (p : List ℕ × Body). bodySpelt (h .names .count) (p .0) (p .1)) l) _ e1 (λ rest er e2.
-    let a = head-written-most 2 256 s h count start (omega arith) eh in
-    let r =
-    all-written-most (λ (p : List ℕ × Body). bodySpelt (h .names .count) (p .0) (p .1)) 119 (λ p. body-written-most (h .names .count) (p .0) (p .1)) l rest er
-    in
-    rw (← whole-same e2, length-append start rest) (omega (arith, a, r, width-two count (omega (arith, a))))))
+    let w = batch-written s h count l bytes e in
+    omega (arith, w .few, width-two count (omega (arith, w .few)), follows-most w (omega arith) 119 (λ p. fits-most (h .names .count) (p .0) (p .1)))
 
 -- a head and as many exceptions as it counts or fewer
 pub since-written-most : (s : List ℕ) (h : Head) (count : ℕ) (l : List Exception) (bytes : List ℕ) → length l ≤ count
     → headThen (headSpelt 3 64 s h count) (exceptionSpelt (h .names .count)) l ≡ whole bytes → length bytes ≤ 740
 since-written-most s h count l bytes few e =
-    then-is (headSpelt 3 64 s h count) _ e (λ start eh e1.
-    then-is (allSpelt (exceptionSpelt (h .names .count)) l) _ e1 (λ rest er e2.
-    let a = head-written-most 3 64 s h count start (omega arith) eh in
-    let r = all-written-most (exceptionSpelt (h .names .count)) 6 (exception-written-most (h .names .count)) l rest er in
-    rw (← whole-same e2, length-append start rest) (omega (arith, a, r, width-small count (omega (arith, a))))))
+    let w = since-written s h count l bytes e in
+    omega (arith, w .few, width-small count (omega (arith, w .few)), follows-most w (omega arith) 6 (λ x lt. exception-most x (omega (arith, w .list .few))))
 
 -- ---- the largest telegrams
 

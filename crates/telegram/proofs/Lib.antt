@@ -12,3 +12,4 @@ pub mod Accepted
 pub mod RoundTrip
 pub mod OneSpelling
 pub mod Lengths
+pub mod WrittenRead

@@ -109,7 +109,7 @@ module _ {s : List ℕ} (bytes : Bytes s) where
 
 -- ---- an accepted telegram is what its meaning is spelt by
 
-heading-good : (s : List ℕ) (h : Head) → HeadIs s h → fair (texts s (h .names)) ≡ true → GoodHeading (headingOf s h)
+pub heading-good : (s : List ℕ) (h : Head) → HeadIs s h → fair (texts s (h .names)) ≡ true → GoodHeading (headingOf s h)
 heading-good s h g e =
     let c = count-texts s (h .names) in
     record { list = list-good (g .list) e; listed = rw c (g .listed); version = rw c (g .version) }
