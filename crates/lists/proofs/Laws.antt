@@ -8,7 +8,7 @@ use native.Mathlib.Nat.{not-suc-le-zero, le-of-suc-le-suc}
 use native.Mathlib.Numerals.{add-one}
 use native.Mathlib.Omega.{arith}
 use lib.ListN.{length, getD, set, replicate, length-set, length-map, length-append, List·getD-append, length-replicate, getD-replicate, List·getD-eq-default}
-use lib.Seq.{ext-getD, getD-append-seam, getD-set-same, getD-set-other}
+use lib.Seq.{ext-getD, getD-append-seam, getD-set-same, getD-set-other, set-getD}
 use lib.Dec.{ltb, leb}
 use borrow.Author.Tests.{lt-ltb, le-ltb, le-leb, lt-leb, not-true, not-false}
 use Rattle.lists.specs.Lists.{tab, over, all, any, sum, chain}
@@ -68,6 +68,13 @@ module _ {A : Type 0} where
           let e : k ≡ i = omega arith in
           rw e (getD-set-same (over d i f r) i (f i) d (omega (arith, length-over d i f r)) ∙ (rw (lt-ltb i (i + 1) (omega arith)) refl ∙ sym (over-at d (i + 1) f r i h)))
 
+  -- a place that has its value already
+  pub over-skip : (d : A) (i : ℕ) (f : ℕ → A) (r : List A) → i < length r → f i ≡ getD r i d → over d i f r ≡ over d (i + 1) f r
+  over-skip d i f r h e =
+      let le : i ≤ i = omega arith in
+      sym (set-getD (over d i f r) i d)
+      ∙ (ap (λ (x : A). set (over d i f r) i x) (over-at d i f r i h ∙ rw (le-ltb i i le) (sym e)) ∙ over-more d i f r h)
+
   -- places past the end are none
   pub over-past : (d : A) (m n : ℕ) (f : ℕ → A) (r : List A) → length r ≤ m → length r ≤ n → over d m f r ≡ over d n f r
   over-past d m n f r h g =
@@ -76,6 +83,11 @@ module _ {A : Type 0} where
     where
       place : (k : ℕ) → k < length r → getD (over d m f r) k d ≡ getD (over d n f r) k d
       place k lt = over-at d m f r k lt ∙ (rw (lt-ltb k m (omega arith), lt-ltb k n (omega arith)) refl ∙ sym (over-at d n f r k lt))
+
+  -- every place made
+  pub over-whole : (d : A) (n : ℕ) (f : ℕ → A) (r : List A) → length r ≡ n → over d n f r ≡ tab n f
+  over-whole d n f r e =
+      is-tab d (over d n f r) n f (length-over d n f r ∙ e) (λ k lt. over-at d n f r k (omega arith) ∙ rw (lt-ltb k n lt))
 
   -- a count above the length counts as the length
   pub over-clamp : (d : A) (n k : ℕ) (f : ℕ → A) (r : List A) → length r ≡ k → over d (min n k) f r ≡ over d n f r

@@ -5,11 +5,11 @@ use mathlib.Core.List.{List}
 use Prim.Native.Nat.{ℕ, zero, suc, _+_, _-_, _*_, _≤_, _<_, min}
 use native.Mathlib.Numerals.{add-one}
 use native.Mathlib.Omega.{arith}
-use lib.ListN.{length, set}
+use lib.ListN.{length, getD, set}
 use lib.Dec.{eqb}
 use borrow.Author.Tests.{eq-eqb, ne-eqb}
-use Rattle.lists.specs.Lists.{at, all, any, sum, least, over}
-use Rattle.lists.proofs.Laws.{over-none, over-more, all-more, all-fails, any-found, sum-more}
+use Rattle.lists.specs.Lists.{at, all, any, sum, least, over, tab}
+use Rattle.lists.proofs.Laws.{over-none, over-more, over-skip, over-whole, all-more, all-fails, any-found, sum-more}
 
 -- ---- a list whose first i elements, of n, are made f 0, f 1, ..
 
@@ -29,8 +29,18 @@ module _ {A : Type 0} {d : A} {f : ℕ → A} {start : List A} {n : ℕ} where
     so-far = rw (M .so-far) (over-more d i f start (omega (arith, M .room)));
   }
 
+  pub make-skip : {r : List A} {i : ℕ} → Making d f start r n i → i < n → f i ≡ getD start i d → Making d f start r n (i + 1)
+  make-skip {r} {i} M h e = record {
+    room = M .room;
+    within = omega arith;
+    so-far = M .so-far ∙ over-skip d i f start (omega (arith, M .room)) e;
+  }
+
   pub make-all : {r : List A} {i : ℕ} → Making d f start r n i → n ≤ i → r ≡ over d n f start
   make-all {r} {i} M h = let e : i ≡ n = omega (arith, M .within) in M .so-far ∙ ap (λ (k : ℕ). over d k f start) e
+
+  pub make-tab : {r : List A} {i : ℕ} → Making d f start r n i → n ≤ i → length start ≡ n → r ≡ tab n f
+  make-tab {r} {i} M h e = make-all M h ∙ over-whole d n f start e
 
 -- ---- a test that each place below i, of n, has passed
 
