@@ -3,10 +3,16 @@
 use Prim.Native.Nat.{ℕ, zero, suc, _+_, _*_, _/_, _%_, _<_, _≤_}
 use mathlib.Core.Path.{_≡_}
 use mathlib.Core.Logic.{_⊎_}
+use mathlib.Core.Bool.{cond}
 use mathlib.Core.List.{List}
 use lib.ListN.{length, getD}
+use lib.Dec.{ltb}
 use Rattle.lists.specs.Lists.{tab}
 use Rattle.store.specs.declared.event.Event.{Event}
+
+-- a number as a word; one that is out of every range here is stored as 0
+abbrev pub smallOf : ℕ → ℕ
+smallOf x = cond (ltb x 65536) x 0
 
 -- byte j of the word w, 0 the lowest
 abbrev pub byteOf : ℕ → ℕ → ℕ

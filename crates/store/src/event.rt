@@ -5,7 +5,7 @@ ghost use mathlib.Core.Path.{_≡_};
 ghost use Prim.Native.Nat.{_+_, _*_, _/_, _%_, _<_, _≤_};
 ghost use lib.ListN.{length, getD, set};
 ghost use Rattle.lists.specs.Lists.{tab};
-ghost use Rattle.store.specs.Words.{byteOf, wordOf, eventAt, Ran, Saved};
+ghost use Rattle.store.specs.Words.{smallOf, byteOf, wordOf, eventAt, Ran, Saved};
 
 // One version entry per member, by our own places; the operation is the first `len` bytes, 0 behind them.
 pub struct Event {
@@ -95,7 +95,7 @@ pub fn load(words: &[u32], slot: u8) -> Event
 
 // A number as a word; one that is out of every range here is stored as 0.
 fn small(x: usize) -> u32
-    ensures { λ r. ⌜ (x < 65536 → r ≡ x) ⌝ }
+    ensures { λ r. ⌜ r ≡ smallOf x ⌝ }
 {
     if x < 65536 { x as u32 } else { 0 }
 }

@@ -1,0 +1,3 @@
+pub mod Internalizer
+pub mod Replica
+pub mod BenchSheet

@@ -1,0 +1,3 @@
+// The replica: Tcsb's calls over clocks, telegrams and stores.
+pub mod internalizer;
+pub mod tcsb;
