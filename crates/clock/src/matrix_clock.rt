@@ -11,6 +11,7 @@ use crate::version_vector::Version;
 use crate::version_vector::VersionAnswer;
 use crate::version_vector::clamp;
 use crate::version_vector::fit;
+use crate::version_vector::pick;
 use refusal::Outcome;
 use refusal::Refusal;
 ghost use mathlib.Core.Path.{_≡_};
@@ -267,12 +268,6 @@ fn cell_at(m: MatrixClock, i: usize, j: usize) -> u32
     row.get(ReplicaIdx(j))
 }
 
-fn smaller(x: u32, y: u32) -> u32
-    ensures { λ r. ⌜ r ≡ min x y ⌝ }
-{
-    if x < y { x } else { y }
-}
-
 // What a raised column's entry becomes.
 fn settled_entry(m: MatrixClock, j: usize, last: u32) -> u32
     requires { ⌜ m .members ≤ 16 ⌝ }
@@ -287,7 +282,7 @@ fn settled_entry(m: MatrixClock, j: usize, last: u32) -> u32
         if seq == last {
             return last;
         }
-        low = smaller(low, seq);
+        low = pick(false, low, seq);
     }
     low
 }

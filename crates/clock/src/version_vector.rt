@@ -100,7 +100,7 @@ pub(crate) fn clamp(n: usize) -> usize
     if n < MEMBERS { n } else { MEMBERS }
 }
 
-fn pick(larger: bool, x: u32, y: u32) -> u32
+pub(crate) fn pick(larger: bool, x: u32, y: u32) -> u32
     ensures { λ r. ⌜ r ≡ pickBy larger x y ⌝ }
 {
     if larger {

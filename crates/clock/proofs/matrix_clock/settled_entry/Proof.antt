@@ -28,14 +28,14 @@ add-i c = search needs
 returns : tie.Need-returns Inv-loop μ-loop
 returns c = let l = c .before .before .before in let s = l .before .before in scan-found (l .loop .inv .1) (omega arith) (sym (c .before .cell-at2 .ensures) ∙ c .if1 .taken) ∙ ap (λ (n : ℕ). settled (s .args .m .rows) n (s .args .j) (s .args .last)) (l .loop .inv .0)
 
-smaller-requires : tie.Need-smaller-requires Inv-loop μ-loop
-smaller-requires c κs = search needs
+pick-requires : tie.Need-pick-requires Inv-loop μ-loop
+pick-requires c κs = search needs
 
 loop-less : tie.Need-loop-less Inv-loop μ-loop
 loop-less c = search needs
 
 loop-again : tie.Need-loop-again Inv-loop μ-loop
-loop-again c = let l = c .before .before .before .before in (l .loop .inv .0, rw (c .smaller .ensures, c .before .before .cell-at2 .ensures) (scan-more (l .loop .inv .1) (omega arith) (λ e. c .before .if1 .left (c .before .before .cell-at2 .ensures ∙ e))))
+loop-again c = let l = c .before .before .before .before in (l .loop .inv .0, rw (c .pick .ensures, c .before .before .cell-at2 .ensures) (scan-more (l .loop .inv .1) (omega arith) (λ e. c .before .if1 .left (c .before .before .cell-at2 .ensures ∙ e))))
 
 returns-2 : tie.Need-returns-2 Inv-loop μ-loop
 returns-2 c = let l = c .before in let s = l .before .before in scan-all (l .loop .inv .1) (c .loop-test .left) ∙ ap (λ (n : ℕ). settled (s .args .m .rows) n (s .args .j) (s .args .last)) (l .loop .inv .0)
@@ -51,7 +51,7 @@ settled-entry-spec =
     cell-at-requires-2
     add-i
     returns
-    smaller-requires
+    pick-requires
     loop-less
     loop-again
     returns-2)
