@@ -104,7 +104,7 @@ module _ {t : ℕ → Bool} {s r f g : List ℕ} {m kept ends i : ℕ} (P : Prun
 -- ---- what `prune` ensures
 
 pub not-pruned : (p : List ℕ) (order free : Slots) (es : List ℕ) → ((c : ℕ) → Good c p order free → ⊥) → Pruned p order free es (sameKept order free)
-not-pruned p order free es h = record { list = λ c G. absurd (h c G); good = λ c G. G; kept = λ _. refl; does = λ c G. absurd (h c G) }
+not-pruned p order free es h = record { list = λ c G. absurd (h c G); good = λ c G. G; kept = λ _. refl; answers = λ c G. absurd (h c G) }
 
 pub pruned : (p : List ℕ) (order free : Slots) (es r g : List ℕ) (kept ends : ℕ)
     → Pruning (λ v. above es (eventAt p v)) (order .at) r (free .at) g (free .count) kept ends (order .count)
@@ -114,7 +114,7 @@ pruned p order free es r g kept ends P = record {
   good = λ c G. good-moved G (record { at = r; count = kept }) (record { at = g; count = ends }) (P .all)
       (λ v. rw (P .keeps, P .frees, occ-append v (meant free) (keep (λ v. not (t v)) (meant order))) (omega (arith, occ-keep v t (meant order))));
   kept = λ h. absurd (true≢false h);
-  does = λ c G. refl;
+  answers = λ c G. refl;
 }
   where
     t : ℕ → Bool

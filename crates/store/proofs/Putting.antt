@@ -3,13 +3,13 @@ use Prim.Native.Nat.{ℕ, zero, suc, _+_, _-_, _*_, _<_, _≤_, min, zero-le, su
 use native.Mathlib.Omega.{arith}
 use native.Mathlib.Nat.{le-of-suc-le-suc, not-suc-le-zero}
 use mathlib.Core.Path.{_≡_, refl, sym, ap, _∙_}
-use mathlib.Core.Bool.{true, true≢false}
+use mathlib.Core.Bool.{true, false, _&&_, and-false, true≢false}
 use mathlib.Core.Logic.{⊎-elim}
 use mathlib.Core.List.{List, [], _∷_, map}
-use lib.ListN.{length, getD, set, take, length-map, length-take}
+use lib.ListN.{length, getD, set, take, length-map, length-take, length-set}
 use lib.Seq.{getD-take, take-suc}
-use lib.Dec.{eqb}
-use borrow.Author.Tests.{eq-eqb}
+use lib.Dec.{ltb, leb, eqb}
+use borrow.Author.Tests.{eq-eqb, lt-ltb, le-ltb, le-leb, lt-leb}
 use Rattle.lists.proofs.Cases.{split}
 use Rattle.store.specs.declared.event.Event.{Event}
 use Rattle.store.specs.declared.order.Slots.{Slots}
@@ -18,7 +18,7 @@ use Rattle.store.specs.declared.order.Cmp.the-variants.{Less, Same, More
 use Rattle.store.specs.declared.order.Found.{Found}
 use Rattle.store.specs.declared.order.Found.the-variants.{At, Gap}
 use Rattle.store.specs.Words.{eventAt, Saved}
-use Rattle.store.specs.Orders.{choose, cmpOf, findFrom, insertSorted, insAt, delAt, hit, occ, meant, movedUp, movedDown, events, Good, sameKept, Put, Removed}
+use Rattle.store.specs.Orders.{choose, cmpOf, findFrom, insertSorted, insAt, delAt, hit, occ, meant, movedUp, movedDown, events, Good, sameKept, inRange, Put, Removed}
 use Rattle.store.proofs.Moving.{length-ins, del-out, map-ins, map-del, occ-ins, occ-del, occ-append, occ-getD, hit-self, meant-up, meant-down}
 
 length-meant : (s : Slots) → length (s .at) ≡ 256 → length (meant s) ≡ min (s .count) 256
@@ -54,7 +54,7 @@ module _ (order free : Slots) (i : ℕ) where
     list = λ c p G. sym (del-out i (events p order) (rw (length-map, length-take) (omega (arith, h c p G))));
     good = λ c p G. G;
     kept = λ _. refl;
-    none = λ c p G _. h c p G;
+    answers = λ c p G. sym (le-ltb i (order .count) (h c p G));
   }
 
   pub removed : length (order .at) ≡ 256 → length (free .at) ≡ 256 → order .count ≤ 256 → i < order .count → free .count < 256
@@ -64,7 +64,7 @@ module _ (order free : Slots) (i : ℕ) where
     good = λ c p G. good-moved G (movedDown order i) (movedUp free (free .count) s) (omega arith)
         (λ v. rw (meant-down order i eo h few, meant-up free (free .count) s ef (omega arith) room, occ-ins v (free .count) s (meant free)) (omega (arith, took v)));
     kept = λ q. absurd (true≢false q);
-    none = λ c p G q. absurd (true≢false q);
+    answers = λ c p G. sym (lt-ltb i (order .count) h);
   }
     where
       s : ℕ
@@ -141,6 +141,21 @@ last-free s e some few v =
     ap (λ (k : ℕ). occ v (take k (s .at))) n
     ∙ (ap (occ v) (take-suc (s .at) (s .count - 1) 0 (omega arith)) ∙ (occ-append v (meant (butLast s)) (getD (s .at) (s .count - 1) 0 ∷ []) ∙ omega arith))
 
+-- nothing changes
+stays : (p : List ℕ) (order free : Slots) (e : Event) → ((c : ℕ) → Good c p order free → false ≡ (inRange e && leb (length (insertSorted e (events p order))) c))
+    → Put p p order free e (sameKept order free)
+stays p order free e h = record { long = refl; answers = h; list = λ c G d. absurd (true≢false (sym d)); good = λ c G. G; kept = λ _. (refl, refl) }
+
+pub far-origin : (p : List ℕ) (order free : Slots) (e : Event) → 16 ≤ e .origin .0 → Put p p order free e (sameKept order free)
+far-origin p order free e h = stays p order free e (λ c G. rw (le-ltb (e .origin .0) 16 h) refl)
+
+pub too-long : (p : List ℕ) (order free : Slots) (e : Event) → 32 < e .len → Put p p order free e (sameKept order free)
+too-long p order free e h = stays p order free e (λ c G. rw (lt-leb (e .len) 32 h, and-false (ltb (e .origin .0) 16)) refl)
+
+-- an event in range is put where no more than c are there with it
+fits-in : (e : Event) (n c : ℕ) → (e .origin .0 < 16) × (e .len ≤ 32) → n ≤ c → true ≡ (inRange e && leb n c)
+fits-in e n c r h = rw (lt-ltb (e .origin .0) 16 (r .0), le-leb (e .len) 32 (r .1), le-leb n c h) refl
+
 -- what `find` answers, and what is known of it
 
 module _ (p : List ℕ) (order : Slots) (e : Event) (eo : length (order .at) ≡ 256) {found : Found} (f : found ≡ findFrom (e .origin .0) (e .number) 0 (events p order)) where
@@ -160,19 +175,17 @@ module _ (p : List ℕ) (order : Slots) (e : Event) (eo : length (order .at) ≡
   gap-within t = omega (arith, gap-at t .at, gap-at t .fit, long)
 
   pub not-put : (free : Slots) {i : ℕ} → found ≡ Gap i → ((c : ℕ) → Good c p order free → order .count ≡ c) → Put p p order free e (sameKept order free)
-  not-put free t h = record {
-    long = refl;
-    list = λ c G a b d. absurd (true≢false (sym d));
-    good = λ c G. G;
-    kept = λ _. (refl, refl);
-    full = λ c G _. rw (gap-at t .is) (omega (arith, length-ins (gap-at t .k) e (events p order), long, h c G, G .size));
-  }
+  not-put free t h = stays p order free e (λ c G.
+      rw (lt-leb (length (insertSorted e (events p order))) c (rw (gap-at t .is) (omega (arith, length-ins (gap-at t .k) e (events p order), long, h c G, G .size)))) (sym (and-false (inRange e))))
 
-  pub replaced : (free : Slots) (q : List ℕ) {i : ℕ} → found ≡ At i → Saved p q (getD (order .at) i 0) e
+  pub replaced : (free : Slots) (q : List ℕ) {i : ℕ} → (e .origin .0 < 16) × (e .len ≤ 32) → found ≡ At i → Saved p q (getD (order .at) i 0) e
       → Put p q order free e (record { done = true; order = order; free = free })
-  replaced free q {i} t S = record {
+  replaced free q {i} r t S = record {
     long = S .long;
-    list = λ c G a b _.
+    answers = λ c G.
+        fits-in e (length (insertSorted e (events p order))) c r
+        (rw (hit-at t .is, length-set (events p order) (hit-at t .k) e) (omega (arith, long, G .counts)));
+    list = λ c G _.
         let h = hit-at t in
         let w = hit-below t in
         let k : h .k ≡ i = omega (arith, h .at) in
@@ -180,21 +193,23 @@ module _ (p : List ℕ) (order : Slots) (e : Event) (eo : length (order .at) ≡
         let l : i < length (meant order) = omega (arith, length-meant order eo) in
         let m : 1 ≤ occ s (meant order) = rw d at (occ-getD i (meant order) l) in
         let o = slot-once G s (omega arith) in
-        map-one (eventAt p) (eventAt q) s (S .there) (meant order) i l d (omega (arith, o .0)) ∙ rw (S .here (o .1) a b, ← k) (sym (h .is));
+        map-one (eventAt p) (eventAt q) s (S .there) (meant order) i l d (omega (arith, o .0)) ∙ rw (S .here (o .1), ← k) (sym (h .is));
     good = λ c G. good-words G q (S .long);
     kept = λ h. absurd (true≢false h);
-    full = λ c G h. absurd (true≢false h);
   }
     where
       s : ℕ
       s = getD (order .at) i 0
 
-  pub inserted : (free : Slots) (q : List ℕ) {i : ℕ} → found ≡ Gap i → length (free .at) ≡ 256 → 0 < free .count → free .count ≤ 256 → order .count < 256
+  pub inserted : (free : Slots) (q : List ℕ) {i : ℕ} → (e .origin .0 < 16) × (e .len ≤ 32) → found ≡ Gap i → length (free .at) ≡ 256 → 0 < free .count → free .count ≤ 256 → order .count < 256
       → Saved p q (getD (free .at) (free .count - 1) 0) e
       → Put p q order free e (record { done = true; order = movedUp order i (getD (free .at) (free .count - 1) 0); free = butLast free })
-  inserted free q {i} t ef some few room S = record {
+  inserted free q {i} r t ef some few room S = record {
     long = S .long;
-    list = λ c G a b _.
+    answers = λ c G.
+        fits-in e (length (insertSorted e (events p order))) c r
+        (rw (gap-at t .is) (omega (arith, length-ins (gap-at t .k) e (events p order), long, G .counts)));
+    list = λ c G _.
         let h = gap-at t in
         let k : h .k ≡ i = omega (arith, h .at) in
         let o = slot-once G s (omega (arith, last-free free ef some few s, hit-self s)) in
@@ -202,14 +217,13 @@ module _ (p : List ℕ) (order : Slots) (e : Event) (eo : length (order .at) ≡
           meant-up order i s eo (gap-within t) room,
           map-ins (eventAt q) i s (meant order),
           map-off (eventAt p) (eventAt q) s (S .there) (meant order) (omega (arith, o .0, last-free free ef some few s, hit-self s)),
-          S .here (o .1) a b,
+          S .here (o .1),
           ← k,
         )
         (sym (h .is));
     good = λ c G. good-words (good-moved G (movedUp order i s) (butLast free) (omega arith)
         (λ v. rw (meant-up order i s eo (gap-within t) room, occ-ins v i s (meant order)) (omega (arith, last-free free ef some few v)))) q (S .long);
     kept = λ h. absurd (true≢false h);
-    full = λ c G h. absurd (true≢false h);
   }
     where
       s : ℕ

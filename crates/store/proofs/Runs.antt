@@ -11,9 +11,8 @@ use borrow.Author.Count.{below-none, below-more}
 use Rattle.lists.specs.Lists.{tab}
 use Rattle.lists.proofs.Cases.{split}
 use Rattle.lists.proofs.Laws.{length-tab, getD-tab, is-tab}
-use borrow.Author.Tests.{lt-ltb}
 use Rattle.store.specs.declared.event.Event.{Event}
-use Rattle.store.specs.Words.{smallOf, byteOf, wordOf, eventFrom, Ran, Saved}
+use Rattle.store.specs.Words.{byteOf, wordOf, eventFrom, Ran, Saved}
 
 -- ---- a run of words stored from place a on
 
@@ -58,22 +57,19 @@ byte-at b q (suc (suc (suc (suc r)))) l h = absurd (omega arith)
 byte-of-word : (b : List ℕ) (k : ℕ) → ((i : ℕ) → getD b i 0 < 256) → byteOf (wordOf b (k / 4)) (k % 4) ≡ getD b k 0
 byte-of-word b k h = byte-at b (k / 4) (k % 4) (omega arith) h ∙ ap (λ (i : ℕ). getD b i 0) (omega arith)
 
-small-is : (x : ℕ) → x < 65536 → smallOf x ≡ x
-small-is x h = rw (lt-ltb x 65536 h)
-
 -- the three runs that `save` stores: the head, the version and the operation
-pub saved : (p p₁ p₂ p₃ : List ℕ) (s o l : ℕ) (e : Event) (w : List ℕ) → o ≡ smallOf (e .origin .0) → l ≡ smallOf (e .len)
+pub saved : (p p₁ p₂ p₃ : List ℕ) (s : ℕ) (e : Event) (w : List ℕ)
     → length (e .version .entries) ≡ 16 → length (e .operation) ≡ 32 → ((i : ℕ) → getD (e .operation) i 0 < 256) → w ≡ tab 8 (wordOf (e .operation))
-    → Ran p p₁ (27 * s) 3 (λ k. getD (o ∷ e .number ∷ l ∷ []) k 0)
+    → Ran p p₁ (27 * s) 3 (λ k. getD (e .origin .0 ∷ e .number ∷ e .len ∷ []) k 0)
     → Ran p₁ p₂ (27 * s + 3) (length (e .version .entries)) (λ k. getD (e .version .entries) k 0)
     → Ran p₂ p₃ (27 * s + 19) (length w) (λ k. getD w k 0)
     → Saved p p₃ s e
-saved p p₁ p₂ p₃ s o l e w eo el ve oe ob we R₁ R₂ R₃ = record {
+saved p p₁ p₂ p₃ s e w ve oe ob we R₁ R₂ R₃ = record {
   long = R₃ .long ∙ R₂ .long ∙ R₁ .long;
-  here = λ room few short. event-from p₃ (27 * s) e
-      (head (27 * s) (omega arith) ∙ ap (λ (i : ℕ). getD p₁ i 0) (sym (add-zero (27 * s))) ∙ R₁ .here (omega arith) 0 (omega arith) ∙ (eo ∙ small-is (e .origin .0) (omega arith)))
+  here = λ room. event-from p₃ (27 * s) e
+      (head (27 * s) (omega arith) ∙ ap (λ (i : ℕ). getD p₁ i 0) (sym (add-zero (27 * s))) ∙ R₁ .here (omega arith) 0 (omega arith))
       (head (27 * s + 1) (omega arith) ∙ R₁ .here (omega arith) 1 (omega arith))
-      (head (27 * s + 2) (omega arith) ∙ R₁ .here (omega arith) 2 (omega arith) ∙ (el ∙ small-is (e .len) (omega arith)))
+      (head (27 * s + 2) (omega arith) ∙ R₁ .here (omega arith) 2 (omega arith))
       ve (λ k h. R₃ .rest (27 * s + 3 + k) (inl (omega arith)) ∙ R₂ .here (omega (arith, R₁ .long)) k (omega arith))
       oe (λ k h. rw (R₃ .here (omega (arith, wl, R₁ .long, R₂ .long)) (k / 4) (omega (arith, wl)), we, getD-tab 0 8 (wordOf (e .operation)) (k / 4) (omega arith)) (byte-of-word (e .operation) k ob));
   there = λ t ne. event-same p p₃ (27 * t) (λ j lo hi. beside j (⊎-elim (λ (lt : t < s). inl (omega arith)) (λ le. inr (omega arith)) (split t s)));

@@ -117,20 +117,24 @@ pub record Good (c : ℕ) (p : List ℕ) (order free : Slots) : Type 0 where
 abbrev pub sameKept : Slots → Slots → Kept
 sameKept order free = record { done = false; order = order; free = free }
 
--- e is put into the store; where it isn't, nothing changed, and with it there would be more than c
+-- an origin's place and a length in their range
+abbrev pub inRange : Event → Bool
+inRange e = ltb (e .origin .0) 16 && leb (e .len) 32
+
+-- e is put into the store where it is in range and no more than c are there with it; where it isn't, nothing changed
 pub record Put (p q : List ℕ) (order free : Slots) (e : Event) (r : Kept) : Type 0 where
   pub long : length q ≡ length p
-  pub list : (c : ℕ) → Good c p order free → e .origin .0 < 16 → e .len ≤ 32 → r .done ≡ true → events q (r .order) ≡ insertSorted e (events p order)
+  pub answers : (c : ℕ) → Good c p order free → r .done ≡ (inRange e && leb (length (insertSorted e (events p order))) c)
+  pub list : (c : ℕ) → Good c p order free → r .done ≡ true → events q (r .order) ≡ insertSorted e (events p order)
   pub good : (c : ℕ) → Good c p order free → Good c q (r .order) (r .free)
   pub kept : r .done ≡ false → (q ≡ p) × (r ≡ sameKept order free)
-  pub full : (c : ℕ) → Good c p order free → r .done ≡ false → length (insertSorted e (events p order)) ≡ c + 1
 
--- the event at a position is taken out, whatever the words; where it isn't, nothing changed and there is none
+-- the event at a position is taken out, whatever the words, where there is one; where it isn't, nothing changed
 pub record Removed (order free : Slots) (i : ℕ) (r : Kept) : Type 0 where
+  pub answers : (c : ℕ) (p : List ℕ) → Good c p order free → r .done ≡ ltb i (order .count)
   pub list : (c : ℕ) (p : List ℕ) → Good c p order free → events p (r .order) ≡ delAt i (events p order)
   pub good : (c : ℕ) (p : List ℕ) → Good c p order free → Good c p (r .order) (r .free)
   pub kept : r .done ≡ false → r ≡ sameKept order free
-  pub none : (c : ℕ) (p : List ℕ) → Good c p order free → r .done ≡ false → order .count ≤ i
 
 -- ---- pruning
 
@@ -148,4 +152,4 @@ pub record Pruned (p : List ℕ) (order free : Slots) (f : List ℕ) (r : Kept) 
   pub list : (c : ℕ) → Good c p order free → events p (r .order) ≡ keep (above f) (events p order)
   pub good : (c : ℕ) → Good c p order free → Good c p (r .order) (r .free)
   pub kept : r .done ≡ false → r ≡ sameKept order free
-  pub does : (c : ℕ) → Good c p order free → r .done ≡ true
+  pub answers : (c : ℕ) → Good c p order free → r .done ≡ true

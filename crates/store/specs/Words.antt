@@ -3,16 +3,10 @@
 use Prim.Native.Nat.{ℕ, zero, suc, _+_, _*_, _/_, _%_, _<_, _≤_}
 use mathlib.Core.Path.{_≡_}
 use mathlib.Core.Logic.{_⊎_}
-use mathlib.Core.Bool.{cond}
 use mathlib.Core.List.{List}
 use lib.ListN.{length, getD}
-use lib.Dec.{ltb}
 use Rattle.lists.specs.Lists.{tab}
 use Rattle.store.specs.declared.event.Event.{Event}
-
--- a number as a word; one that is out of every range here is stored as 0
-abbrev pub smallOf : ℕ → ℕ
-smallOf x = cond (ltb x 65536) x 0
 
 -- byte j of the word w, 0 the lowest
 abbrev pub byteOf : ℕ → ℕ → ℕ
@@ -47,6 +41,6 @@ pub record Ran (p q : List ℕ) (a n : ℕ) (f : ℕ → ℕ) : Type 0 where
 -- q is p with e in slot s
 pub record Saved (p q : List ℕ) (s : ℕ) (e : Event) : Type 0 where
   pub long : length q ≡ length p
-  pub here : 27 * s + 27 ≤ length p → e .origin .0 < 16 → e .len ≤ 32 → eventAt q s ≡ e
+  pub here : 27 * s + 27 ≤ length p → eventAt q s ≡ e
   pub there : (t : ℕ) → (t ≡ s → ⊥) → eventAt q t ≡ eventAt p t
   pub rest : (j : ℕ) → (j < 27 * s) ⊎ (27 * s + 27 ≤ j) → getD q j 0 ≡ getD p j 0

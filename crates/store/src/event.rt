@@ -5,7 +5,7 @@ ghost use mathlib.Core.Path.{_≡_};
 ghost use Prim.Native.Nat.{_+_, _*_, _/_, _%_, _<_, _≤_};
 ghost use lib.ListN.{length, getD, set};
 ghost use Rattle.lists.specs.Lists.{tab};
-ghost use Rattle.store.specs.Words.{smallOf, byteOf, wordOf, eventAt, Ran, Saved};
+ghost use Rattle.store.specs.Words.{byteOf, wordOf, eventAt, Ran, Saved};
 
 // One version entry per member, by our own places; the operation is the first `len` bytes, 0 behind them.
 pub struct Event {
@@ -15,6 +15,9 @@ pub struct Event {
     pub len: usize,
     pub operation: [u8; 32],
 }
+
+// The most bytes of an operation.
+pub const OPERATION: usize = 32;
 
 // How many words a slot has.
 pub const SLOT: usize = 27;
@@ -93,13 +96,6 @@ pub fn load(words: &[u32], slot: u8) -> Event
     }
 }
 
-// A number as a word; one that is out of every range here is stored as 0.
-fn small(x: usize) -> u32
-    ensures { λ r. ⌜ r ≡ smallOf x ⌝ }
-{
-    if x < 65536 { x as u32 } else { 0 }
-}
-
 // Four bytes as a word.
 fn joined(b0: u8, b1: u8, b2: u8, b3: u8) -> u32
     ensures { λ r. ⌜ r ≡ b0 + 256 * b1 + 65536 * b2 + 16777216 * b3 ⌝ }
@@ -136,12 +132,13 @@ fn put_run(words: &mut [u32], a: usize, src: &[u32])
 }
 
 // Puts an event into a slot.
-pub fn save(words: &mut [u32], slot: u8, e: Event)
+pub(crate) fn save(words: &mut [u32], slot: u8, e: Event)
+    requires { ⌜ (e .origin .0 < 16) × (e .len ≤ 32) ⌝ }
     ensures { λ _. ⌜ Saved (now (words .entry)) (now (words .exit)) slot e ⌝ }
 {
     let a = SLOT * (slot as usize);
     let origin = e.origin.0;
-    let head = [small(origin), e.number, small(e.len)];
+    let head = [origin as u32, e.number, e.len as u32];
     let version = e.version;
     let entries = version.entries;
     let operation = e.operation;

@@ -1,9 +1,11 @@
 // Orders: the slots of a store's events by their ids, origin's place and then number, and the slots that are free.
 use crate::event::Event;
+use crate::event::OPERATION;
 use crate::event::SLOT;
 use crate::event::save;
 use crate::event::word;
 use clock::id::ReplicaIdx;
+use clock::version_vector::MEMBERS;
 use clock::version_vector::Row;
 ghost use mathlib.Core.Path.{_≡_};
 ghost use Prim.Native.Nat.{_+_, _*_, _<_, _≤_};
@@ -147,8 +149,9 @@ fn taken_out(slots: Slots, position: usize) -> Slots
     Slots { at, count }
 }
 
-// Puts an event into the store, in the place of one with the same id; not done where no slot is free.
-pub fn insert(order: Slots, free: Slots, words: &mut [u32], e: Event) -> Kept
+// Puts an event in whose place and length are in their range.
+fn put_in(order: Slots, free: Slots, words: &mut [u32], e: Event) -> Kept
+    requires { ⌜ (e .origin .0 < 16) × (e .len ≤ 32) ⌝ }
     ensures { λ r. ⌜ Put (now (words .entry)) (now (words .exit)) order free e r ⌝ }
 {
     let origin = e.origin;
@@ -200,6 +203,28 @@ pub fn insert(order: Slots, free: Slots, words: &mut [u32], e: Event) -> Kept
             }
         }
     }
+}
+
+// Puts an event into the store, in the place of one with the same id; not done where no slot is free, or where its origin's place or its length is
+// out of range.
+pub fn insert(order: Slots, free: Slots, words: &mut [u32], e: Event) -> Kept
+    ensures { λ r. ⌜ Put (now (words .entry)) (now (words .exit)) order free e r ⌝ }
+{
+    if MEMBERS <= e.origin.0 {
+        return Kept {
+            done: false,
+            order,
+            free,
+        };
+    }
+    if OPERATION < e.len {
+        return Kept {
+            done: false,
+            order,
+            free,
+        };
+    }
+    put_in(order, free, words, e)
 }
 
 // Takes the event at a position out of the order, and frees its slot; not done where there is none.

@@ -6,12 +6,12 @@ use lib.ListN.{length, getD, set, take}
 use lib.Dec.{leb, ltb, eqb}
 use Rattle.refusal.specs.declared.Refusal.{Refusal}
 use Rattle.refusal.specs.Refusal.{no}
-use Rattle.lists.specs.Lists.{at, tab, all, any}
+use Rattle.lists.specs.Lists.{at, tab, all}
 use Rattle.leb128.specs.Leb128.{lastNumber}
 use Rattle.clock.specs.declared.causal_frontier.CausalFrontier.{CausalFrontier}
 use Rattle.clock.specs.declared.matrix_clock.MatrixClock.{MatrixClock}
 use Rattle.clock.specs.declared.matrix_clock.Columns.{Columns}
-use Rattle.clock.specs.Entries.{zeroEntries, joinEntries, sameEntries}
+use Rattle.clock.specs.Entries.{zeroEntries, joinEntries, atMost, sameEntries}
 use Rattle.clock.specs.Matrix.{rowOf, cell, zeroMatrix, withRowAt, noColumns, raisedOf, settledCut}
 use Rattle.telegram.specs.Fields.{many}
 use Rattle.telegram.specs.Reading.{Whole, whole, refused, then, fair, texts, body, exception, event, batch, since}
@@ -116,7 +116,7 @@ isDuplicate st e = leb (e .number) (cell (st .matrix .rows) (e .origin .0) (e .o
 
 -- else stale if the frontier contains it or some version entry is below the frontier's
 unfoldable pub isStale : State → Event → Bool
-isStale st e = leb (e .number) (at (cut st) (e .origin .0)) || any (members st) (λ j. ltb (at (e .version .entries) j) (at (cut st) j))
+isStale st e = leb (e .number) (at (cut st) (e .origin .0)) || not (atMost (members st) (cut st) (e .version .entries))
 
 -- else taken
 unfoldable pub verdictOf : State → Event → Verdict
