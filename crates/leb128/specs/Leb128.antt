@@ -3,9 +3,10 @@
 use Prim.Native.Nat.{ℕ, zero, suc, _+_, _*_, _/_, _%_}
 use mathlib.Core.Path.{_≡_}
 use mathlib.Core.Bool.{Bool, false, cond, _||_}
-use mathlib.Core.List.{List, [], _∷_, _++_}
-use lib.ListN.{length, take, drop}
+use mathlib.Core.List.{List, [], _∷_}
+use lib.ListN.{length, drop}
 use lib.Dec.{ltb, leb, eqb}
+use Rattle.lists.specs.Lists.{laid}
 use Rattle.refusal.specs.Refusal.{no}
 use Rattle.leb128.specs.declared.NumberRead.{NumberRead}
 use Rattle.leb128.specs.declared.NumberRead.the-variants.{Value, Refused}
@@ -76,7 +77,7 @@ writeAt out at n = cond (fitsAt out at n) (written.Next (at + widthOf n)) (writt
 
 -- what the buffer then holds: the number's bytes in their place, and every other byte as it was
 abbrev pub bytesAt : List ℕ → ℕ → ℕ → List ℕ
-bytesAt out at n = cond (fitsAt out at n) (take at out ++ (spell n ++ drop (at + widthOf n) out)) out
+bytesAt out at n = cond (fitsAt out at n) (laid out at (spell n)) out
 
 -- the answer and the buffer afterwards
 pub record Wrote (out after : List ℕ) (at n : ℕ) (answer : Written) : Type 0 where

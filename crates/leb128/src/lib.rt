@@ -2,10 +2,10 @@
 use refusal::Refusal;
 ghost use mathlib.Core.Path.{_≡_};
 ghost use mathlib.Core.Bool.{cond, _||_, _&&_};
-ghost use mathlib.Core.List.{_++_};
 ghost use Prim.Native.Nat.{_+_, _*_, _<_, _≤_};
 ghost use lib.Dec.{ltb, eqb};
-ghost use lib.ListN.{length, take, drop};
+ghost use lib.ListN.{length};
+ghost use Rattle.lists.specs.Lists.{laid};
 ghost use Rattle.refusal.specs.Refusal.{no};
 ghost use Rattle.leb128.specs.Leb128.{readAt, widthOf, Wrote, lastNumber, spell};
 
@@ -95,7 +95,7 @@ pub fn width(value: u32) -> usize
 // Writes a number's bytes at a place of a buffer that holds them.
 fn put(out: &mut [u8], at: usize, value: u32)
     requires { ⌜ at + widthOf value ≤ length (now out) ⌝ }
-    ensures { λ _. ⌜ now (out .exit) ≡ take at (now (out .entry)) ++ (spell value ++ drop (at + widthOf value) (now (out .entry))) ⌝ }
+    ensures { λ _. ⌜ now (out .exit) ≡ laid (now (out .entry)) at (spell value) ⌝ }
 {
     let mut i = at;
     let mut n = value;

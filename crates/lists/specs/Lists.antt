@@ -2,7 +2,7 @@
 use Prim.Native.Nat.{ℕ, zero, suc, _+_, min}
 use mathlib.Core.Bool.{Bool, true, false, cond, _&&_, _||_}
 use mathlib.Core.List.{List, [], _∷_, _++_}
-use lib.ListN.{length, getD}
+use lib.ListN.{length, getD, take, drop}
 use lib.Dec.{ltb}
 
 -- the entry at a place, and 0 where there is none
@@ -41,3 +41,7 @@ least (suc k) f = min (least k f) (f (suc k))
 unfoldable pub chain : {A : Type 0} → ℕ → (ℕ → List A) → List A
 chain zero f = []
 chain (suc k) f = chain k f ++ f k
+
+-- a list put into another from a place on, and every other element as it was
+abbrev pub laid : {A : Type 0} → List A → ℕ → List A → List A
+laid out at b = take at out ++ (b ++ drop (at + length b) out)

@@ -8,7 +8,7 @@ use mathlib.Core.List.{List, [], _∷_, _++_, append-assoc}
 use lib.ListN.{length, take, drop, getD, set, length-append, length-drop, take-append-drop}
 use lib.Seq.{length-take-le, take-at, drop-at, drop-drop, take-suc, getD-drop, set-split}
 use borrow.Author.Tests.{le-leb}
-use Rattle.lists.specs.Lists.{chain}
+use Rattle.lists.specs.Lists.{chain, laid}
 use Rattle.lists.proofs.Laws.{chain-more, chain-room}
 use Rattle.refusal.specs.declared.Refusal.{Refusal}
 use Rattle.leb128.specs.declared.Written.{Written}
@@ -18,7 +18,7 @@ use Rattle.leb128.specs.Leb128 as leb128
 use Rattle.telegram.specs.Fields.{text}
 use Rattle.telegram.specs.declared.field.Part.{Part}
 use Rattle.telegram.specs.Meaning.{sizedBytes}
-use Rattle.telegram.specs.Writing.{laid, Put, Room}
+use Rattle.telegram.specs.Writing.{Put, Room}
 use Rattle.telegram.proofs.Parts.{length-text}
 
 pub length-laid : (out : List ℕ) (at : ℕ) (b : List ℕ) → Room out at b → length (laid out at b) ≡ length out

@@ -3,10 +3,10 @@ use Prim.Native.Nat.{ℕ, _+_, _≤_}
 use mathlib.Core.Path.{_≡_}
 use mathlib.Core.Bool.{Bool, cond, _&&_}
 use mathlib.Core.List.{List, _++_}
-use lib.ListN.{length, take, drop, getD}
+use lib.ListN.{length, getD}
 use lib.Dec.{leb, ltb}
 use Rattle.refusal.specs.Refusal.{no}
-use Rattle.lists.specs.Lists.{all, chain}
+use Rattle.lists.specs.Lists.{all, chain, laid}
 use Rattle.leb128.specs.declared.Written.{Written}
 use Rattle.leb128.specs.declared.Written.the-variants as written
 use Rattle.leb128.specs.Leb128.{spell}
@@ -71,10 +71,6 @@ measured (whole b) = width.Is (length b)
 measured (refused k) = width.Refused k
 
 -- ---- the buffer
-
--- bytes in their place, and every other byte as it was
-abbrev pub laid : List ℕ → ℕ → List ℕ → List ℕ
-laid out at b = take at out ++ (b ++ drop (at + length b) out)
 
 -- the buffer holds the bytes from a place on, and as many more behind them
 abbrev pub roomFor : List ℕ → ℕ → List ℕ → ℕ → Bool
