@@ -7,15 +7,11 @@ use Prim.Native.Nat.{ℕ, zero, suc, _+_, _*_, _≤_, _<_}
 use native.Mathlib.Omega.{arith}
 use native.Mathlib.Nat.{not-suc-le-zero, le-of-suc-le-suc}
 use lib.ListN.{length, getD, replicate, length-append}
-use Rattle.lists.specs.Lists.{chain}
+use Rattle.lists.specs.Lists.{chain, joined}
 
 -- every element of a list
 abbrev pub Each : {X : Type 0} → (X → Type 0) → List X → Type 0
 Each {X} P l = (x : X) → List·Memᴰ x l → P x
-
-unfoldable pub joined : {A X : Type 0} → (X → List A) → List X → List A
-joined f [] = []
-joined f (x ∷ l) = f x ++ joined f l
 
 module _ {X : Type 0} where
   -- the element at a place is one of the list

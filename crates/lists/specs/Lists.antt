@@ -42,6 +42,11 @@ unfoldable pub chain : {A : Type 0} → ℕ → (ℕ → List A) → List A
 chain zero f = []
 chain (suc k) f = chain k f ++ f k
 
+-- what each element is spelt by, one behind the other
+unfoldable pub joined : {A X : Type 0} → (X → List A) → List X → List A
+joined f [] = []
+joined f (x ∷ l) = f x ++ joined f l
+
 -- a list put into another from a place on, and every other element as it was
 abbrev pub laid : {A : Type 0} → List A → ℕ → List A → List A
 laid out at b = take at out ++ (b ++ drop (at + length b) out)

@@ -11,7 +11,8 @@ use borrow.Author.Tests.{ltb-true, leb-true, eqb-true}
 use Rattle.refusal.specs.Refusal.{no}
 use Rattle.lists.proofs.Laws.{getD-tab}
 use Rattle.lists.proofs.Cases.{split}
-use Rattle.lists.proofs.Joined.{Each, each-at, each-none, each-more, joined, joined-map, chain-joined}
+use Rattle.lists.specs.Lists.{joined}
+use Rattle.lists.proofs.Joined.{Each, each-at, each-none, each-more, joined-map, chain-joined}
 use Rattle.lists.proofs.Stands.{Stands, stand-none, stand-part, stand-join, stand-only}
 use Rattle.leb128.specs.Leb128.{spell, lastNumber, readAt}
 use Rattle.leb128.proofs.Spelling.{Bytes, only-spelling, width-range}

@@ -5,10 +5,10 @@ use mathlib.Core.List.{List, [], _++_}
 use Prim.Native.Nat.{ℕ, suc, _+_, _*_, _/_, _≤_, _<_}
 use native.Mathlib.Omega.{arith}
 use lib.ListN.{length, getD, replicate, length-append, length-take, length-replicate}
-use Rattle.lists.specs.Lists.{tab, all, chain}
+use Rattle.lists.specs.Lists.{tab, all, chain, joined}
 use Rattle.lists.proofs.Cases.{split}
 use Rattle.lists.proofs.Laws.{getD-tab}
-use Rattle.lists.proofs.Joined.{at-each, each-same, joined, chain-joined, joined-most, joined-same}
+use Rattle.lists.proofs.Joined.{at-each, each-same, chain-joined, joined-most, joined-same}
 use Rattle.leb128.specs.Leb128.{groups, spell, widthOf, lastNumber}
 use Rattle.leb128.proofs.Laws.{width-one, width-more}
 use Rattle.leb128.proofs.Spelling.{width-range}
@@ -22,7 +22,6 @@ use Rattle.telegram.specs.declared.since.Exception.{Exception}
 use Rattle.telegram.proofs.Filled.{count-texts}
 use Rattle.telegram.proofs.Parts.{ListIs, length-name, length-text}
 use Rattle.telegram.proofs.Accepted.{each-or-none}
-use Rattle.telegram.proofs.RoundTrip.{bodies-joined, exceptions-joined}
 use Rattle.telegram.proofs.OneSpelling.{headThen}
 use Rattle.telegram.proofs.WrittenRead.{BodyFits, Follows, eventFrom, event-written, batch-written, since-written}
 
@@ -103,7 +102,7 @@ event-most t g = event-bytes-most t (good-list (g .list)) (good-body (t .body) (
 pub batch-most : (t : BatchTelegram) → GoodBatch t → length (batchBytes t) ≤ 30821
 unfolding batchBytes
 batch-most t g =
-    rw (bodies-joined (t .bodies), length-append (headBytes 2 (t .heading) (length (t .bodies))) (joined bodyBytes (t .bodies)))
+    rw (length-append (headBytes 2 (t .heading) (length (t .bodies))) (joined bodyBytes (t .bodies)))
     (omega (
       arith,
       g .few,
@@ -115,7 +114,7 @@ batch-most t g =
 pub since-most : (t : SinceTelegram) → GoodSince t → length (sinceBytes t) ≤ 740
 unfolding sinceBytes
 since-most t g =
-    rw (exceptions-joined (t .exceptions), length-append (headBytes 3 (t .heading) (length (t .exceptions))) (joined exceptionBytes (t .exceptions)))
+    rw (length-append (headBytes 3 (t .heading) (length (t .exceptions))) (joined exceptionBytes (t .exceptions)))
     (omega (
       arith,
       g .few,
@@ -262,7 +261,7 @@ pub largest-batch-length : length (batchBytes largest-batch) ≡ 30821
 unfolding batchBytes
 largest-batch-length =
     let bodies : List EventBody = replicate 256 largest-body in
-    rw (bodies-joined bodies, length-append (headBytes 2 largest-heading (length bodies)) (joined bodyBytes bodies), length-replicate 256 largest-body)
+    rw (length-append (headBytes 2 largest-heading (length bodies)) (joined bodyBytes bodies), length-replicate 256 largest-body)
     (omega (arith, joined-same bodyBytes 256 largest-body, largest-body-length, largest-head-lengths))
 
 pub largest-since-length : length (sinceBytes largest-since) ≡ 740
@@ -270,5 +269,5 @@ unfolding sinceBytes
 largest-since-length =
     let exceptions : List Exception = replicate 64 largest-exception in
     rw
-    (exceptions-joined exceptions, length-append (headBytes 3 largest-heading (length exceptions)) (joined exceptionBytes exceptions), length-replicate 64 largest-exception)
+    (length-append (headBytes 3 largest-heading (length exceptions)) (joined exceptionBytes exceptions), length-replicate 64 largest-exception)
     (omega (arith, joined-same exceptionBytes 64 largest-exception, largest-exception-length, largest-head-lengths))

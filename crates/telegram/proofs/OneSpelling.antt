@@ -7,7 +7,8 @@ use Prim.Native.Nat.{ℕ, _≤_}
 use native.Mathlib.Omega.{arith}
 use lib.ListN.{length, getD, length-map}
 use borrow.Author.Tests.{le-leb, lt-ltb}
-use Rattle.lists.proofs.Joined.{Each, joined, joined-map}
+use Rattle.lists.specs.Lists.{joined}
+use Rattle.lists.proofs.Joined.{Each, joined-map}
 use Rattle.lists.proofs.Stands.{stand-join, stand-only}
 use Rattle.leb128.specs.Leb128.{groups}
 use Rattle.leb128.proofs.Spelling.{Bytes}
@@ -26,7 +27,7 @@ use Rattle.telegram.proofs.Filled.{count-texts}
 use Rattle.telegram.proofs.Steps.{got-carry, whole-same, after-is, then-is, ended-is, fairly-is}
 use Rattle.telegram.proofs.Parts.{ListIs, part-fits, list-fits}
 use Rattle.telegram.proofs.Accepted.{BodyIs, HeadIs, Carries, list-good, kind-is, list-is, body-is, exception-is, carries}
-use Rattle.telegram.proofs.RoundTrip.{event-read-back, batch-read-back, since-read-back, bodies-joined, exceptions-joined}
+use Rattle.telegram.proofs.RoundTrip.{event-read-back, batch-read-back, since-read-back}
 
 -- ---- two telegrams
 
@@ -133,7 +134,7 @@ batch-accepted s t bytes h =
     let says : Body → EventBody = bodyOf n s in
     let l : length (map says (i .items)) ≡ b .count = length-map (i .items) says ∙ i .counted in
     subst (λ t. (s ≡ batchBytes t) × GoodBatch t) (whole-same (rw (i .reads) at h1)) (
-      i .same ∙ rw (l, bodies-joined (map says (i .items)), joined-map bodyBytes says (i .items)),
+      i .same ∙ rw (l, joined-map bodyBytes says (i .items)),
       record {
         heading = heading-good s (b .head) (i .heads) (f .1);
         few = omega (arith, l, i .few);
@@ -148,7 +149,7 @@ since-accepted s t bytes h =
     let f = fairly-is s (λ (r : Since). r .head .names) (sinceForm s) hr in
     let i = since-is bytes r (f .0) in
     subst (λ t. (s ≡ sinceBytes t) × GoodSince t) (whole-same (rw (i .reads) at h1)) (
-      i .same ∙ rw (i .counted, exceptions-joined (i .items)),
+      i .same ∙ rw (i .counted),
       record {
         heading = heading-good s (r .head) (i .heads) (f .1);
         few = omega (arith, i .counted, i .few);

@@ -6,13 +6,14 @@ use Prim.Native.Nat.{ℕ, _+_, _≤_, _<_}
 use native.Mathlib.Omega.{arith}
 use lib.ListN.{length, take, drop, getD, length-map}
 use borrow.Author.Tests.{lt-ltb, le-leb, eq-eqb}
-use Rattle.lists.proofs.Joined.{Each, at-each, joined, chain-joined}
+use Rattle.lists.specs.Lists.{joined}
+use Rattle.lists.proofs.Joined.{Each, at-each, chain-joined}
 use Rattle.lists.proofs.Stands.{Stands, stand-first, stand-second, stand-drop, stand-whole}
 use Rattle.leb128.specs.Leb128.{spell, lastNumber}
 use Rattle.leb128.proofs.Spelling.{read-spelt}
 use Rattle.telegram.specs.Fields.{Got, got, numberTold, number, kind, counted, placed, part, sized, text, many}
 use Rattle.telegram.specs.Reading.{Whole, whole, fair, eventForm, batchForm, sinceForm, exception, head, names, list, entries, body, filled, namesOf, texts}
-use Rattle.telegram.specs.Meaning.{EventBody, EventTelegram, Heading, BatchTelegram, SinceTelegram, bodyOf, headingOf, eventOf, sizedBytes, listBytes, versionBytes, bodyBytes, headBytes, bodiesBytes, exceptionBytes, exceptionsBytes, eventBytes, batchBytes, sinceBytes, eventTold, batchTold, sinceTold, GoodList, GoodVersion, GoodBody, GoodHeading, GoodException, GoodEvent, GoodBatch, GoodSince}
+use Rattle.telegram.specs.Meaning.{EventBody, EventTelegram, Heading, BatchTelegram, SinceTelegram, bodyOf, headingOf, eventOf, sizedBytes, listBytes, versionBytes, bodyBytes, headBytes, exceptionBytes, eventBytes, batchBytes, sinceBytes, eventTold, batchTold, sinceTold, GoodList, GoodVersion, GoodBody, GoodHeading, GoodException, GoodEvent, GoodBatch, GoodSince}
 use Rattle.telegram.specs.declared.since.Exception.{Exception}
 use Rattle.telegram.proofs.Filled.{take-filled, count-texts, texts-named}
 
@@ -27,16 +28,6 @@ record ReadWhole {A X : Type 0} (says : A → X) (w : Whole A) (x : X) : Type 0 
   found : A
   answers : w ≡ whole found
   means : says found ≡ x
-
-pub bodies-joined : (l : List EventBody) → bodiesBytes l ≡ joined bodyBytes l
-unfolding bodiesBytes joined
-bodies-joined [] = refl
-bodies-joined (b ∷ l) = ap (λ (r : List ℕ). bodyBytes b ++ r) (bodies-joined l)
-
-pub exceptions-joined : (l : List Exception) → exceptionsBytes l ≡ joined exceptionBytes l
-unfolding exceptionsBytes joined
-exceptions-joined [] = refl
-exceptions-joined (e ∷ l) = ap (λ (r : List ℕ). exceptionBytes e ++ r) (exceptions-joined l)
 
 -- a head is read, and at mid stands a count
 record Begun (s : List ℕ) (k : ℕ) (h : Heading) (count next : ℕ) : Type 0 where
@@ -231,7 +222,7 @@ module _ {s : List ℕ} where
   batch-back t g p =
       let r =
       carried-back 2 256 (λ count. body count s) (λ count. bodyOf count s) bodyBytes (t .heading) (t .bodies) (omega arith) (omega arith) (g .heading) (g .few)
-      (λ b m at next q. body-back (length (t .heading .names)) b (g .heading .list .few) (g .bodies b m) q) (rw (bodies-joined (t .bodies)) at p)
+      (λ b m at next q. body-back (length (t .heading .names)) b (g .heading .list .few) (g .bodies b m) q) p
       in
       rw (
         r .heads .answers,
@@ -259,7 +250,7 @@ module _ {s : List ℕ} where
       let r =
       carried-back 3 64 (λ count. exception count s) (λ count e. e) exceptionBytes (t .heading) (t .exceptions) (omega arith) (omega arith) (g .heading) (g .few)
       (λ e m at next q. record { found = e; answers = exception-back (length (t .heading .names)) e (g .heading .list .few) (g .exceptions e m) q; means = refl })
-      (rw (exceptions-joined (t .exceptions)) at p)
+      p
       in
       let e = sym (map-id (r .items .found)) ∙ r .items .means in
       rw (

@@ -10,9 +10,9 @@ use lib.Seq.{length-take-le, getD-take}
 use lib.Dec.{leb, ltb}
 use borrow.Author.Tests.{leb-true, ltb-true}
 use Rattle.refusal.specs.Refusal.{no}
-use Rattle.lists.specs.Lists.{at}
+use Rattle.lists.specs.Lists.{at, joined}
 use Rattle.lists.proofs.Cases.{split}
-use Rattle.lists.proofs.Joined.{Each, each-none, each-more, joined, joined-map}
+use Rattle.lists.proofs.Joined.{Each, each-none, each-more, joined-map}
 use Rattle.leb128.specs.Leb128.{lastNumber}
 use Rattle.telegram.specs.Reading.{Whole, whole, texts, fair}
 use Rattle.telegram.specs.Meaning.{EventBody, EventTelegram, BatchTelegram, SinceTelegram, bodyOf, headingOf, listBytes, bodyBytes, headBytes, exceptionBytes, eventBytes, batchBytes, sinceBytes, eventTold, batchTold, sinceTold, GoodVersion, GoodBody, GoodHeading}
@@ -25,7 +25,7 @@ use Rattle.telegram.proofs.Filled.{count-texts}
 use Rattle.telegram.proofs.Steps.{whole-same, then-is, if-whole}
 use Rattle.telegram.proofs.Parts.{PartIs, ListIs, fits-list, fits-part, length-text}
 use Rattle.telegram.proofs.Accepted.{list-good}
-use Rattle.telegram.proofs.RoundTrip.{event-read-back, batch-read-back, since-read-back, bodies-joined, exceptions-joined}
+use Rattle.telegram.proofs.RoundTrip.{event-read-back, batch-read-back, since-read-back}
 use Rattle.telegram.proofs.OneSpelling.{allSpelt, headThen, heading-good}
 
 -- ---- what a machine's types say: sixteen entries, and numbers up to the last one
@@ -175,7 +175,7 @@ pub batch-written-bytes : (s : List ℕ) (h : Head) (l : List (List ℕ × Body)
 unfolding batchBytes
 batch-written-bytes s h l bytes e =
     let says : List ℕ × Body → EventBody = λ p. bodyOf (h .names .count) (p .0) (p .1) in
-    batch-written s h (length l) l bytes e .same ∙ rw (length-map l says, bodies-joined (map says l), joined-map bodyBytes says l)
+    batch-written s h (length l) l bytes e .same ∙ rw (length-map l says, joined-map bodyBytes says l)
 
 pub batch-written-read : (s : List ℕ) (h : Head) (l : List (List ℕ × Body)) (bytes : List ℕ)
     → headThen (headSpelt 2 256 s h (length l)) (λ p. bodySpelt (h .names .count) (p .0) (p .1)) l ≡ whole bytes → fair (texts s (h .names)) ≡ true
@@ -208,7 +208,7 @@ since-written s h count l bytes e =
 pub since-written-bytes : (s : List ℕ) (h : Head) (l : List Exception) (bytes : List ℕ)
     → headThen (headSpelt 3 64 s h (length l)) (exceptionSpelt (h .names .count)) l ≡ whole bytes → bytes ≡ sinceBytes (sinceFrom s h l)
 unfolding sinceBytes
-since-written-bytes s h l bytes e = since-written s h (length l) l bytes e .same ∙ rw (exceptions-joined l)
+since-written-bytes s h l bytes e = since-written s h (length l) l bytes e .same
 
 pub since-written-read : (s : List ℕ) (h : Head) (l : List Exception) (bytes : List ℕ)
     → headThen (headSpelt 3 64 s h (length l)) (exceptionSpelt (h .names .count)) l ≡ whole bytes → fair (texts s (h .names)) ≡ true

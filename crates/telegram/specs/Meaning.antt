@@ -2,9 +2,9 @@
 use Prim.Native.Nat.{ℕ, _+_, _≤_, _<_}
 use mathlib.Core.Path.{_≡_}
 use mathlib.Core.Bool.{true}
-use mathlib.Core.List.{List, [], _∷_, _++_, map, List·Memᴰ}
+use mathlib.Core.List.{List, [], _++_, map, List·Memᴰ}
 use lib.ListN.{length, take, getD}
-use Rattle.lists.specs.Lists.{at, chain}
+use Rattle.lists.specs.Lists.{at, chain, joined}
 use Rattle.leb128.specs.Leb128.{spell, lastNumber}
 use Rattle.telegram.specs.Fields.{Got, got, bad, text, many}
 use Rattle.telegram.specs.Reading.{Whole, whole, refused, then, texts, fair, body, exception, event, batch, since}
@@ -74,25 +74,17 @@ eventBytes t = spell 1 ++ (listBytes (t .names) ++ bodyBytes (t .body))
 unfoldable pub headBytes : ℕ → Heading → ℕ → List ℕ
 headBytes k h count = spell k ++ (listBytes (h .names) ++ (spell (h .sender) ++ (versionBytes (h .version) ++ spell count)))
 
-unfoldable pub bodiesBytes : List EventBody → List ℕ
-bodiesBytes [] = []
-bodiesBytes (b ∷ l) = bodyBytes b ++ bodiesBytes l
-
 -- place and number
 unfoldable pub exceptionBytes : Exception → List ℕ
 exceptionBytes e = spell (e .place .0) ++ spell (e .number)
 
-unfoldable pub exceptionsBytes : List Exception → List ℕ
-exceptionsBytes [] = []
-exceptionsBytes (e ∷ l) = exceptionBytes e ++ exceptionsBytes l
-
 -- 2, .., count, event bodies
 unfoldable pub batchBytes : BatchTelegram → List ℕ
-batchBytes t = headBytes 2 (t .heading) (length (t .bodies)) ++ bodiesBytes (t .bodies)
+batchBytes t = headBytes 2 (t .heading) (length (t .bodies)) ++ joined bodyBytes (t .bodies)
 
 -- 3, .., count, pairs of place and number
 unfoldable pub sinceBytes : SinceTelegram → List ℕ
-sinceBytes t = headBytes 3 (t .heading) (length (t .exceptions)) ++ exceptionsBytes (t .exceptions)
+sinceBytes t = headBytes 3 (t .heading) (length (t .exceptions)) ++ joined exceptionBytes (t .exceptions)
 
 -- ---- what a telegram says, or why it is refused
 
