@@ -13,7 +13,7 @@ use Rattle.clock.specs.declared.version_vector.Order.the-variants as order
 use Rattle.clock.specs.declared.version_vector.Compared.the-variants as compared
 use Rattle.clock.specs.Version.{compareOf, joinOf, doneVersion, keptVersion, dependenciesOf, dependencies}
 use Rattle.telegram.specs.Reading.{filled}
-use Rattle.tcsb.specs.Replica.{State, Call, done, not-done, Pick, none, at-place, zeroState, receiveOf, sendOf, nextOf, afterPick, isSettled, frontierCall, cut}
+use Rattle.tcsb.specs.Replica.{State, stateAfter, Pick, none, at-place, zeroState, receiveOf, sendOf, nextOf, afterPick, isSettled, frontierCall, cut}
 
 -- ---- versions: {a,b,c}@origin
 
@@ -30,16 +30,11 @@ telegram origin number a b c = 1 ∷ 3 ∷ 1 ∷ 65 ∷ 1 ∷ 66 ∷ 1 ∷ 67 �
 abbrev pub founded : State
 founded = zeroState ((65 ∷ []) ∷ (66 ∷ []) ∷ (67 ∷ []) ∷ []) 0
 
--- the state after a call; a refused one leaves it
-abbrev pub after : {A : Type 0} → State → Call A → State
-after st (done a st′) = st′
-after st (not-done k) = st
-
 abbrev pub received : State → List ℕ → State
-received st s = after st (receiveOf st s)
+received st s = stateAfter st (receiveOf st s)
 
 abbrev pub sent : State → State
-sent st = after st (sendOf st [])
+sent st = stateAfter st (sendOf st [])
 
 -- so many next calls: the ids of what they delivered, and the state they leave
 pub record Nexts : Type 0 where

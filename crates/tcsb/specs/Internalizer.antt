@@ -5,6 +5,7 @@ use mathlib.Core.Bool.{Bool, cond, _&&_}
 use mathlib.Core.List.{List, [], _∷_}
 use lib.ListN.{length, getD, set}
 use lib.Dec.{leb, ltb, eqb}
+use Rattle.refusal.specs.declared.Outcome.the-variants as outcome
 use Rattle.refusal.specs.Refusal.{no}
 use Rattle.lists.specs.Lists.{at, tab, all}
 use Rattle.clock.specs.Entries.{zeroEntries}
@@ -13,6 +14,7 @@ use Rattle.telegram.specs.Reading.{Whole, whole, refused, sameBytes}
 use Rattle.telegram.specs.declared.body.Body.{Body}
 use Rattle.store.specs.declared.event.Event.{Event}
 use Rattle.tcsb.specs.declared.internalizer.Translation.{Translation}
+use Rattle.tcsb.specs.declared.internalizer.Translated.{Translated}
 
 -- nothing is known of a sender that never sent
 abbrev pub noTranslation : Translation
@@ -29,6 +31,11 @@ translationOf names listed =
     cond (all (length listed) (λ p. ltb (placeOf names (getD listed p [])) (length names)))
     (whole (record { count = length listed; places = tab 16 (λ p. cond (ltb p (length listed)) (placeOf names (getD listed p [])) 0) }))
     (refused (no 7))
+
+-- the answer as a struct: where the list is refused, the row is empty
+abbrev pub translated : Whole Translation → Translated
+translated (whole row) = record { outcome = outcome.Done; row = row }
+translated (refused k) = record { outcome = outcome.Refused k; row = noTranslation }
 
 -- the row has all that the known one has, in its places
 unfoldable pub continues : Translation → Translation → Bool

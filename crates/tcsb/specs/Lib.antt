@@ -1,3 +1,9 @@
 pub mod Internalizer
 pub mod Replica
+pub mod WellFormed
+pub mod Tcsb
+pub mod Receive
+pub mod Survey
+pub mod Delivery
+pub mod Writing
 pub mod BenchSheet

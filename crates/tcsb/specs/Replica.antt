@@ -10,6 +10,7 @@ use Rattle.lists.specs.Lists.{at, tab, all}
 use Rattle.leb128.specs.Leb128.{lastNumber}
 use Rattle.clock.specs.declared.causal_frontier.CausalFrontier.{CausalFrontier}
 use Rattle.clock.specs.declared.matrix_clock.MatrixClock.{MatrixClock}
+use Rattle.clock.specs.declared.version_vector.Row.{Row}
 use Rattle.clock.specs.declared.matrix_clock.Columns.{Columns}
 use Rattle.clock.specs.Entries.{zeroEntries, joinEntries, atMost, sameEntries}
 use Rattle.clock.specs.Matrix.{rowOf, cell, zeroMatrix, withRowAt, noColumns, raisedOf, settledCut}
@@ -22,9 +23,9 @@ use Rattle.store.specs.declared.event.Event.{Event}
 use Rattle.store.specs.Orders.{insertSorted, delAt, keep, above}
 use Rattle.tcsb.specs.Internalizer.{noTranslation, translationOf, continues, ourPlace, ourEntries, eventOf}
 use Rattle.tcsb.specs.declared.internalizer.Translation.{Translation}
-use Rattle.tcsb.specs.declared.tcsb.Tally.{Tally}
-use Rattle.tcsb.specs.declared.tcsb.Verdict.{Verdict}
-use Rattle.tcsb.specs.declared.tcsb.Verdict.the-variants.{Taken, Duplicate, Stale}
+use Rattle.tcsb.specs.declared.batch.Tally.{Tally}
+use Rattle.tcsb.specs.declared.receive.Verdict.{Verdict}
+use Rattle.tcsb.specs.declared.receive.Verdict.the-variants.{Taken, Duplicate, Stale}
 
 -- ---- the state
 
@@ -53,6 +54,15 @@ cut st = st .frontier .row .entries
 pub data Call (A : Type 0) : Type 0 where
   done : A → State → Call A
   not-done : Refusal → Call A
+
+-- its answer, and the state after it; a refused call leaves the state
+abbrev pub answerOf : {A : Type 0} → Call A → Whole A
+answerOf (done a st) = whole a
+answerOf (not-done k) = refused k
+
+abbrev pub stateAfter : {A : Type 0} → State → Call A → State
+stateAfter st (done a st′) = st′
+stateAfter st (not-done k) = st
 
 abbrev pub first : {A B : Type 0} → Whole A → (A → Call B) → Call B
 first (whole a) f = f a
@@ -85,12 +95,15 @@ foundOf names place =
 -- ---- what a telegram's list and sender must be
 
 -- 7; 8: list shorter than the sender's known row, or differing in it; 10: the sender is ourselves
-unfoldable pub admitted : State → List (List ℕ) → ℕ → Whole Translation
-admitted st listed sender =
-    then (translationOf (st .names) listed) (λ row.
-    cond (continues (getD (st .known) (ourPlace row sender) noTranslation) row)
-    (cond (eqb (ourPlace row sender) (own st)) (refused (no 10)) (whole row))
+abbrev pub admittedBy : List (List ℕ) → List Translation → ℕ → List (List ℕ) → ℕ → Whole Translation
+admittedBy names known place listed sender =
+    then (translationOf names listed) (λ row.
+    cond (continues (getD known (ourPlace row sender) noTranslation) row)
+    (cond (eqb (ourPlace row sender) place) (refused (no 10)) (whole row))
     (refused (no 8)))
+
+unfoldable pub admitted : State → List (List ℕ) → ℕ → Whole Translation
+admitted st listed sender = admittedBy (st .names) (st .known) (own st) listed sender
 
 -- every accepted receive, batch or pull extends the sender's known row to the telegram's list
 abbrev pub extended : State → ℕ → Translation → State
@@ -111,14 +124,23 @@ abbrev pub misnumbered : Body → Bool
 misnumbered b = eqb (b .number) 0 || not (eqb (b .number) (at (b .entries) (b .place .0)))
 
 -- duplicate if the number is at most the origin row's own entry
+abbrev pub duplicateBy : List Row → Event → Bool
+duplicateBy rows e = leb (e .number) (cell rows (e .origin .0) (e .origin .0))
+
 unfoldable pub isDuplicate : State → Event → Bool
-isDuplicate st e = leb (e .number) (cell (st .matrix .rows) (e .origin .0) (e .origin .0))
+isDuplicate st e = duplicateBy (st .matrix .rows) e
 
 -- else stale if the frontier contains it or some version entry is below the frontier's
+abbrev pub staleBy : ℕ → List ℕ → Event → Bool
+staleBy n f e = leb (e .number) (at f (e .origin .0)) || not (atMost n f (e .version .entries))
+
 unfoldable pub isStale : State → Event → Bool
-isStale st e = leb (e .number) (at (cut st) (e .origin .0)) || not (atMost (members st) (cut st) (e .version .entries))
+isStale st e = staleBy (members st) (cut st) e
 
 -- else taken
+abbrev pub verdictBy : MatrixClock → CausalFrontier → Event → Verdict
+verdictBy m f e = cond (duplicateBy (m .rows) e) Duplicate (cond (staleBy (m .members) (f .row .entries) e) Stale Taken)
+
 unfoldable pub verdictOf : State → Event → Verdict
 verdictOf st e = cond (isDuplicate st e) Duplicate (cond (isStale st e) Stale Taken)
 
@@ -202,15 +224,24 @@ batchOf st s =
     (first (recorded st (map (eventOf row s) bodies)) (λ after.
     done (tallyOf st (map (eventOf row s) bodies)) (extended after (ourPlace row (t .head .sender .0)) row)))))))
 
+-- ---- where an answer is written: 15 where it is longer than the buffer lent
+
+abbrev pub lent : List ℕ → Call (List ℕ) → Call (List ℕ)
+lent out (done b st) = cond (leb (length b) (length out)) (done b st) (not-done (no 15))
+lent out (not-done k) = not-done k
+
 -- ---- what is written: always all members in our own order
 
-abbrev pub bodyWritten : State → Event → EventBody
-bodyWritten st e = record {
+abbrev pub writtenBody : ℕ → Event → EventBody
+writtenBody n e = record {
   origin = e .origin .0;
   number = e .number;
-  version = take (members st) (e .version .entries);
+  version = take n (e .version .entries);
   operation = take (e .len) (e .operation);
 }
+
+abbrev pub bodyWritten : State → Event → EventBody
+bodyWritten st e = writtenBody (members st) e
 
 -- with our row
 abbrev pub headingWritten : State → Heading
@@ -255,10 +286,13 @@ sendOf st operation =
 -- ---- next
 
 -- an event is ready when its origin entry is ours plus one and each other entry is at most ours
+abbrev pub readyBy : ℕ → List ℕ → Event → Bool
+readyBy n row e =
+    all n (λ j.
+    cond (eqb j (e .origin .0)) (eqb (at (e .version .entries) j) (at row j + 1)) (leb (at (e .version .entries) j) (at row j)))
+
 unfoldable pub isReady : State → Event → Bool
-isReady st e =
-    all (members st) (λ j.
-    cond (eqb j (e .origin .0)) (eqb (at (e .version .entries) j) (at (ownRow st) j + 1)) (leb (at (e .version .entries) j) (at (ownRow st) j)))
+isReady st e = readyBy (members st) (ownRow st) e
 
 -- the event at a position leaves the inbox and joins our row; the origin's row takes every larger entry, and those columns replace the
 -- list of raised columns
@@ -300,6 +334,17 @@ nextOf st = firstReady st 0 (st .inbox)
 abbrev pub deliverOf : State → ℕ → ℕ → Pick
 deliverOf st o n = namedReady st o n 0 (st .inbox)
 
+-- what is answered: the event, or none
+abbrev pub pickedOf : Pick → List Event
+pickedOf none = []
+pickedOf (at-place i e) = e ∷ []
+
+abbrev pub nextCall : State → Call (List Event)
+nextCall st = done (pickedOf (nextOf st)) (afterPick st (nextOf st))
+
+abbrev pub deliverCall : State → ℕ → ℕ → Call (List Event)
+deliverCall st o n = done (pickedOf (deliverOf st o n)) (afterPick st (deliverOf st o n))
+
 -- ---- frontier
 
 -- for each listed column: if a row holds exactly the frontier's entry it stays, else it becomes the least of the column
@@ -322,6 +367,10 @@ frontierCall st =
       inbox = st .inbox;
       outbox = keep (above (settledOf st)) (st .outbox);
     })
+
+-- what is answered: the frontier, or "same"
+abbrev pub stableCall : State → Call (List CausalFrontier)
+stableCall st = done (cond (isSettled st) [] (frontierCall st .frontier ∷ [])) (frontierCall st)
 
 -- ---- since: our row, and the waiting ids as exceptions by origin place, then number
 
@@ -368,3 +417,8 @@ flushed (suc k) st = flushMore (flushed k) st (nextOf st)
 unfoldable pub flushOf : State → Call (List ℕ)
 flushOf st =
     done (batchWritten (flushed (length (st .inbox)) st .state) (flushed (length (st .inbox)) st .events)) (flushed (length (st .inbox)) st .state)
+
+-- ---- members: names and count
+
+abbrev pub membersOf : State → List (List ℕ)
+membersOf st = st .names

@@ -1,11 +1,11 @@
 -- Parts that lie in their slice, and lists of them. Assumes nothing.
-use mathlib.Core.Path.{_≡_, ap, _∙_}
+use mathlib.Core.Path.{_≡_, sym, ap, _∙_}
 use mathlib.Core.Bool.{true, _&&_}
 use mathlib.Core.List.{List, []}
-use Prim.Native.Nat.{ℕ, _+_, _≤_, _<_}
+use Prim.Native.Nat.{ℕ, _+_, _-_, _≤_, _<_}
 use native.Mathlib.Omega.{arith}
-use lib.ListN.{length, drop, getD, length-drop}
-use lib.Seq.{length-take-le}
+use lib.ListN.{length, drop, getD, length-drop, drop-of-length-le}
+use lib.Seq.{length-take-le, take-nil, take-all}
 use lib.Dec.{leb}
 use borrow.Author.Tests.{leb-true, le-leb}
 use Rattle.lists.specs.Lists.{all}
@@ -22,6 +22,17 @@ partOf l i = getD (l .parts) i nowhere
 
 pub length-text : (s : List ℕ) (p : Part) → p .start + p .len ≤ length s → length (text s p) ≡ p .len
 length-text s p h = length-take-le (p .len) (drop (p .start) s) (omega (arith, length-drop (p .start) s))
+
+-- as much of a part as lies in its slice
+pub clipped-none : (s : List ℕ) (p : Part) → length s ≤ p .start → [] ≡ text s p
+clipped-none s p h = rw (drop-of-length-le s {i = p .start} h) (sym (take-nil (p .len)))
+
+pub clipped-rest : (s : List ℕ) (p : Part) → p .start < length s → length s - p .start < p .len → text s (record { start = p .start; len = length s - p .start }) ≡ text s p
+clipped-rest s p h lt =
+    rw (
+      take-all (length s - p .start) (drop (p .start) s) (omega (arith, length-drop (p .start) s)),
+      take-all (p .len) (drop (p .start) s) (omega (arith, length-drop (p .start) s)),
+    )
 
 pub record PartIs (low high : ℕ) (s : List ℕ) (p : Part) : Type 0 where
   pub least : low ≤ p .len

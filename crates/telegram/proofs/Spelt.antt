@@ -10,6 +10,7 @@ use borrow.Author.Tests.{leb-true, ltb-true, le-leb, lt-ltb}
 use Rattle.lists.specs.Lists.{all, chain}
 use Rattle.lists.proofs.Laws.{answered-no, answered-yes}
 use Rattle.refusal.specs.declared.Refusal.{Refusal}
+use Rattle.refusal.specs.declared.Outcome.the-variants as outcome
 use Rattle.refusal.specs.Refusal.{no}
 use Rattle.leb128.specs.declared.Written.the-variants as written
 use Rattle.leb128.specs.Leb128.{spell, widthOf}
@@ -19,9 +20,9 @@ use Rattle.telegram.specs.declared.list.Names.{Names}
 use Rattle.telegram.specs.declared.body.Body.{Body}
 use Rattle.telegram.specs.declared.head.Head.{Head}
 use Rattle.telegram.specs.declared.since.Exception.{Exception}
-use Rattle.telegram.specs.Reading.{Whole, whole, refused, texts}
+use Rattle.telegram.specs.Reading.{Whole, whole, refused, texts, fair, Within}
 use Rattle.telegram.specs.Meaning.{listBytes, versionBytes, bodyBytes, headBytes, exceptionBytes, bodyOf, headingOf}
-use Rattle.telegram.specs.Writing.{partFits, listFits, namesSpelt, listSpelt, bodySpelt, eventSpelt, headSpelt, exceptionSpelt, measured, Put, Room, Wrote}
+use Rattle.telegram.specs.Writing.{partFits, listFits, namesSpelt, listSpelt, listJudged, bodySpelt, eventSpelt, headSpelt, exceptionSpelt, measured, Put, Room, Wrote}
 use Rattle.telegram.proofs.Parts.{partOf, fits-list}
 use Rattle.telegram.proofs.Widths.{one-byte, nameBytes, names-most, list-width, list-most, body-width, body-most, head-width}
 
@@ -73,6 +74,19 @@ unfolding listSpelt
 list-spelt s l {w} told said =
     let f = cond-is (listFits s l) (whole (listBytes (texts s l))) (no 4) w (sym told ∙ said) in
     record { fits = f .0; spelt = record { is = rw (f .0); long = whole-long (listBytes (texts s l)) w (f .1) } }
+
+-- a list judged by itself
+pub list-not-judged : (s : List ℕ) (l : Names) {k : Refusal} {r : Width} → r ≡ measured (listSpelt s l) → r ≡ width.Refused k → outcome.Refused k ≡ listJudged s l
+unfolding listSpelt
+list-not-judged s l {k} told said = pick (listFits s l) (refused-is _ told said)
+  where
+    pick : (t : Bool) → cond t (whole (listBytes (texts s l))) (refused (no 4)) ≡ refused k
+        → outcome.Refused k ≡ cond t (cond (fair (texts s l)) outcome.Done (outcome.Refused (no 6))) (outcome.Refused (no 4))
+    pick true e = let z : _≡_ {A = ℕ} 0 1 = cc in absurd (omega arith)
+    pick false e = cc
+
+pub fits-within : (s : List ℕ) (l : Names) → listFits s l ≡ true → Within s l
+fits-within s l e = let f = fits-list s l e in record { few = f .few; inside = λ i lt. f .parts i lt .within }
 
 pub list-small : {s : List ℕ} {l : Names} {w : ℕ} → ListSpelt s l w → w ≤ 273
 list-small {s} {l} f = omega (arith, f .spelt .long, list-most s l (f .fits))

@@ -5,13 +5,15 @@ use mathlib.Core.Bool.{Bool, cond, _&&_}
 use mathlib.Core.List.{List, _++_}
 use lib.ListN.{length, getD}
 use lib.Dec.{leb, ltb}
+use Rattle.refusal.specs.declared.Outcome.{Outcome}
+use Rattle.refusal.specs.declared.Outcome.the-variants as outcome
 use Rattle.refusal.specs.Refusal.{no}
 use Rattle.lists.specs.Lists.{all, chain, laid}
 use Rattle.leb128.specs.declared.Written.{Written}
 use Rattle.leb128.specs.declared.Written.the-variants as written
 use Rattle.leb128.specs.Leb128.{spell}
 use Rattle.telegram.specs.Fields.{text}
-use Rattle.telegram.specs.Reading.{Whole, whole, refused, then, nowhere, texts}
+use Rattle.telegram.specs.Reading.{Whole, whole, refused, then, nowhere, texts, fair}
 use Rattle.telegram.specs.Meaning.{sizedBytes, listBytes, bodyBytes, headBytes, exceptionBytes, bodyOf, headingOf}
 use Rattle.telegram.specs.declared.field.Part.{Part}
 use Rattle.telegram.specs.declared.field.Width.{Width}
@@ -40,6 +42,10 @@ namesSpelt s l count =
 
 unfoldable pub listSpelt : List ℕ → Names → Whole (List ℕ)
 listSpelt s l = cond (listFits s l) (whole (listBytes (texts s l))) (refused (no 4))
+
+-- a list of names by itself: 4, then 6
+abbrev pub listJudged : List ℕ → Names → Outcome
+listJudged s l = cond (listFits s l) (cond (fair (texts s l)) outcome.Done (outcome.Refused (no 6))) (outcome.Refused (no 4))
 
 unfoldable pub bodySpelt : ℕ → List ℕ → Body → Whole (List ℕ)
 bodySpelt count s b =

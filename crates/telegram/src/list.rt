@@ -19,7 +19,7 @@ ghost use mathlib.Core.Bool.{true};
 ghost use Rattle.telegram.specs.Fields.{bad, text};
 ghost use Rattle.telegram.specs.Reading.{noNames, names, list, listRead, texts, Within, fairBytes, sameBytes, fairAt, fair};
 ghost use Rattle.telegram.specs.Meaning.{listBytes};
-ghost use Rattle.telegram.specs.Writing.{listFits, namesSpelt, listSpelt, measured, Room, Put, Wrote};
+ghost use Rattle.telegram.specs.Writing.{listFits, namesSpelt, listSpelt, listJudged, measured, Room, Put, Wrote};
 
 // The most names of a list, which is the most members.
 pub const MEMBERS: usize = 16;
@@ -113,8 +113,8 @@ fn is_fair_name(s: &[u8], part: Part) -> bool
     true
 }
 
-// Two parts hold the same bytes.
-pub(crate) fn same_text(s: &[u8], a: Part, t: &[u8], b: Part) -> bool
+// Two parts that lie in their slices hold the same bytes.
+fn same_bytes(s: &[u8], a: Part, t: &[u8], b: Part) -> bool
     requires { ⌜ (a .start + a .len ≤ length (now s)) × (b .start + b .len ≤ length (now t)) ⌝ }
     ensures { λ r. ⌜ r ≡ sameBytes (text (now (s .entry)) a) (text (now (t .entry)) b) ⌝ }
 {
@@ -134,6 +134,28 @@ pub(crate) fn same_text(s: &[u8], a: Part, t: &[u8], b: Part) -> bool
     true
 }
 
+// As much of a part as lies in its slice.
+fn clipped(s: &[u8], part: Part) -> Part
+    ensures { λ r. ⌜ (r .start + r .len ≤ length (now (s .entry))) × (text (now (s .entry)) r ≡ text (now (s .entry)) part) ⌝ }
+{
+    let start = part.start;
+    if s.len() <= start {
+        return Part { start: 0, len: 0 };
+    }
+    let rest = s.len() - start;
+    if rest < part.len {
+        return Part { start, len: rest };
+    }
+    part
+}
+
+// Two parts hold the same bytes; what doesn't lie in its slice isn't held.
+pub fn same_text(s: &[u8], a: Part, t: &[u8], b: Part) -> bool
+    ensures { λ r. ⌜ r ≡ sameBytes (text (now (s .entry)) a) (text (now (t .entry)) b) ⌝ }
+{
+    same_bytes(s, clipped(s, a), t, clipped(t, b))
+}
+
 // The name at a place has no wrong byte, and no name before it is the same.
 fn is_fair_at(s: &[u8], names: Names, place: usize) -> bool
     requires { ⌜ Within (now s) names × (place < names .count) ⌝ }
@@ -145,7 +167,7 @@ fn is_fair_at(s: &[u8], names: Names, place: usize) -> bool
     }
     let mut earlier: usize = 0;
     while earlier < place {
-        if same_text(s, names.parts[earlier], s, part) {
+        if same_bytes(s, names.parts[earlier], s, part) {
             return false;
         }
         earlier += 1;
@@ -201,6 +223,22 @@ pub(crate) fn list_width(s: &[u8], names: Names) -> Width
     match names_width(s, names, count) {
         Width::Refused(why) => Width::Refused(why),
         Width::Is(sum) => Width::Is(1 + sum),
+    }
+}
+
+// A list of names by itself: 4 for its count or the length of a name, 6 for a name with a wrong byte, or twice.
+pub fn judge_list(s: &[u8], names: Names) -> Outcome
+    ensures { λ r. ⌜ r ≡ listJudged (now (s .entry)) names ⌝ }
+{
+    match list_width(s, names) {
+        Width::Refused(why) => Outcome::Refused(why),
+        Width::Is(_) => {
+            if is_fair(s, names) {
+                Outcome::Done
+            } else {
+                Outcome::Refused(Refusal::BadName)
+            }
+        }
     }
 }
 

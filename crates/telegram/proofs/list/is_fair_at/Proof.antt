@@ -32,17 +32,17 @@ returns c = rw (fair-at _ (c .before .before .before .before .args .t2) _ (c .be
 loop-holds : tie.Need-loop-holds Inv-loop μ-loop
 loop-holds c = (sym (c .before .is-fair-name .ensures) ∙ not-false _ (c .if1 .left), pass-none)
 
-mul-same-text : tie.Need-mul-same-text Inv-loop μ-loop
-mul-same-text c = search needs
+mul-same-bytes : tie.Need-mul-same-bytes Inv-loop μ-loop
+mul-same-bytes c = search needs
 
-element-copy-out-same-text : tie.Need-element-copy-out-same-text Inv-loop μ-loop
-element-copy-out-same-text c = search needs
+element-copy-out-same-bytes : tie.Need-element-copy-out-same-bytes Inv-loop μ-loop
+element-copy-out-same-bytes c = search needs
 
-same-text-requires : tie.Need-same-text-requires Inv-loop μ-loop
-same-text-requires c κs = (c .before .before .before .before .before .before .before .pre .0 .inside (c .before .before .loop .earlier) (omega (arith, c .before .before .before .before .before .before .before .pre .1)), c .before .before .before .before .before .before .before .pre .0 .inside _ (c .before .before .before .before .before .before .before .pre .1))
+same-bytes-requires : tie.Need-same-bytes-requires Inv-loop μ-loop
+same-bytes-requires c κs = (c .before .before .before .before .before .before .before .pre .0 .inside (c .before .before .loop .earlier) (omega (arith, c .before .before .before .before .before .before .before .pre .1)), c .before .before .before .before .before .before .before .pre .0 .inside _ (c .before .before .before .before .before .before .before .pre .1))
 
 returns-2 : tie.Need-returns-2 Inv-loop μ-loop
-returns-2 c = rw (fair-at _ (c .before .before .before .before .before .before .before .before .before .args .t2) _ (c .before .before .before .before .before .before .before .before .before .pre .1), c .before .before .before .before .loop .inv .0) (sym (pass-fails (c .before .before .before .before .loop .inv .1) (c .before .before .before .loop-test .taken) (ap not (sym (c .before .same-text .ensures) ∙ c .if2 .taken))))
+returns-2 c = rw (fair-at _ (c .before .before .before .before .before .before .before .before .before .args .t2) _ (c .before .before .before .before .before .before .before .before .before .pre .1), c .before .before .before .before .loop .inv .0) (sym (pass-fails (c .before .before .before .before .loop .inv .1) (c .before .before .before .loop-test .taken) (ap not (sym (c .before .same-bytes .ensures) ∙ c .if2 .taken))))
 
 add-earlier : tie.Need-add-earlier Inv-loop μ-loop
 add-earlier c = search needs
@@ -51,7 +51,7 @@ loop-less : tie.Need-loop-less Inv-loop μ-loop
 loop-less c = search needs
 
 loop-again : tie.Need-loop-again Inv-loop μ-loop
-loop-again c = (c .before .before .before .before .loop .inv .0, pass-more (c .before .before .before .before .loop .inv .1) (c .before .before .before .loop-test .taken) (ap not (sym (c .before .same-text .ensures) ∙ c .if2 .left)))
+loop-again c = (c .before .before .before .before .loop .inv .0, pass-more (c .before .before .before .before .loop .inv .1) (c .before .before .before .loop-test .taken) (ap not (sym (c .before .same-bytes .ensures) ∙ c .if2 .left)))
 
 returns-3 : tie.Need-returns-3 Inv-loop μ-loop
 returns-3 c = rw (fair-at _ (c .before .before .before .before .before .before .args .t2) _ (c .before .before .before .before .before .before .pre .1), c .before .loop .inv .0) (sym (pass-all (c .before .loop .inv .1) (c .loop-test .left)))
@@ -67,9 +67,9 @@ is-fair-at-spec =
     is-fair-name-requires
     returns
     loop-holds
-    mul-same-text
-    element-copy-out-same-text
-    same-text-requires
+    mul-same-bytes
+    element-copy-out-same-bytes
+    same-bytes-requires
     returns-2
     add-earlier
     loop-less
