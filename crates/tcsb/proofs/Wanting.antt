@@ -7,8 +7,8 @@ use native.Mathlib.Omega.{arith}
 use native.Mathlib.Numerals.{add-one}
 use lib.ListN.{length, getD, set, take, length-set}
 use lib.Seq.{take-suc, take-suc-set, getD-set-same, getD-set-other}
-use lib.Dec.{eqb}
-use borrow.Author.Tests.{eq-eqb, ne-eqb, lt-ltb, le-ltb}
+use lib.Dec.{eqb, ltb}
+use borrow.Author.Tests.{eq-eqb, ne-eqb}
 use Rattle.refusal.specs.declared.Refusal.{Refusal}
 use Rattle.lists.specs.Lists.{at, any}
 use Rattle.lists.proofs.Laws.{length-tab}
@@ -243,12 +243,12 @@ module _ (requester : ℕ) (requested : List ℕ) (ids : Ids) (e : Event) where
   pub wanted-own : e .origin .0 ≡ requester → false ≡ wantedBy requester requested ids e
   wanted-own q = rw (eq-eqb (e .origin .0) requester q) refl
 
-  pub wanted-known : (e .origin .0 ≡ requester → ⊥) → {n : ℕ} → n ≡ at requested (e .origin .0) → e .number ≤ n → false ≡ wantedBy requester requested ids e
-  wanted-known q told le = rw (ne-eqb (e .origin .0) requester q, le-ltb (at requested (e .origin .0)) (e .number) (omega arith)) refl
+  pub wanted-known : (e .origin .0 ≡ requester → ⊥) → {n : ℕ} → n ≡ at requested (e .origin .0) → ltb n (e .number) ≡ false → false ≡ wantedBy requester requested ids e
+  wanted-known q told le = rw (ne-eqb (e .origin .0) requester q, ← told, le) refl
 
-  pub wanted-unless : (e .origin .0 ≡ requester → ⊥) → {n : ℕ} {r : Bool} → n ≡ at requested (e .origin .0) → n < e .number → r ≡ hasId ids (e .origin .0) (e .number)
+  pub wanted-unless : (e .origin .0 ≡ requester → ⊥) → {n : ℕ} {r : Bool} → n ≡ at requested (e .origin .0) → ltb n (e .number) ≡ true → r ≡ hasId ids (e .origin .0) (e .number)
       → not r ≡ wantedBy requester requested ids e
-  wanted-unless q told lt has = rw (ne-eqb (e .origin .0) requester q, lt-ltb (at requested (e .origin .0)) (e .number) (omega arith), has) refl
+  wanted-unless q told lt has = rw (ne-eqb (e .origin .0) requester q, ← told, lt, has) refl
 
 -- ids that have what is excepted
 pub wants-same : (row : Translation) (xs : List Exception) (ids : Ids) {a b : ℕ} {v u : List ℕ} → a ≡ b → v ≡ u

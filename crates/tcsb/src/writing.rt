@@ -47,7 +47,7 @@ ghost use mathlib.Core.Path.{_≡_};
 ghost use Prim.Native.Nat.{ℕ, _<_, _≤_};
 ghost use mathlib.Core.List.{List, []};
 ghost use lib.ListN.{length};
-ghost use lib.Dec.{leb};
+ghost use lib.Dec.{leb, ltb};
 ghost use Rattle.telegram.specs.Writing.{measured};
 ghost use Rattle.clock.specs.Matrix.{rowOf};
 ghost use Rattle.lists.specs.Lists.{at};
@@ -245,6 +245,13 @@ fn read_ids(s: &[u8], at: usize, names: usize, count: usize, row: Translation) -
     ids
 }
 
+// Whether a number is above the requested one.
+fn is_above(number: u32, requested: u32) -> bool
+    ensures { λ r. ⌜ r ≡ ltb requested number ⌝ }
+{
+    requested < number
+}
+
 // An event that is not the requester's, above the requested entry and not excepted.
 fn is_wanted(e: Event, requester: ReplicaIdx, requested: Row, ids: Ids) -> bool
     ensures { λ r. ⌜ (ids .count ≤ 256 → r ≡ wantedBy (requester .0) (requested .entries) ids e) ⌝ }
@@ -253,7 +260,7 @@ fn is_wanted(e: Event, requester: ReplicaIdx, requested: Row, ids: Ids) -> bool
     if origin.0 == requester.0 {
         return false;
     }
-    if e.number <= requested.get(origin) {
+    if !is_above(e.number, requested.get(origin)) {
         return false;
     }
     !ids.has(origin, e.number)
