@@ -20,7 +20,7 @@ module _ {A : Type 0} where
   cond-append true x l m = refl
   cond-append false x l m = refl
 
-  keep-append : (p : A → Bool) (l m : List A) → keep p (l ++ m) ≡ keep p l ++ keep p m
+  pub keep-append : (p : A → Bool) (l m : List A) → keep p (l ++ m) ≡ keep p l ++ keep p m
   unfolding keep
   keep-append p [] m = refl
   keep-append p (x ∷ l) m = rw (keep-append p l m) (cond-append (p x) x (keep p l) (keep p m))

@@ -32,6 +32,7 @@ use Rattle.tcsb.specs.Tcsb.{view, Good, WritesOnly}
 use Rattle.tcsb.specs.Writing.{headOf, AllWritable, bodiesBytes, idsBytes, BodiesWidth, PutsBodies, ExceptionsWidth, PutsExceptions, WritesBatch}
 use Rattle.tcsb.specs.declared.tcsb.Tcsb.{Tcsb}
 use Rattle.tcsb.proofs.Valid.{members-range}
+use Rattle.tcsb.proofs.Writes.{next-clash}
 
 -- ---- two things written one behind the other
 
@@ -109,9 +110,6 @@ module _ {t : Tcsb} {list p q : List ℕ} (g : Good t list p q) (k limit count :
 width-clash : {A : Type 0} {r : Width} {n : ℕ} {k : Refusal} → r ≡ width.Is n → r ≡ width.Refused k → A
 width-clash a b = let z : _≡_ {A = ℕ} 0 1 = cc in absurd (omega arith)
 
-written-clash : {A : Type 0} {n : ℕ} {k : Refusal} → written.Next n ≡ written.Refused k → A
-written-clash e = let z : _≡_ {A = ℕ} 0 1 = cc in absurd (omega arith)
-
 -- how many events some slots have
 pub length-events : (p : List ℕ) (slots : Slots) → length (slots .at) ≡ 256 → slots .count ≤ 256 → length (events p slots) ≡ slots .count
 length-events p slots long few = length-map (take (slots .count) (slots .at)) (eventAt p) ∙ length-take-le (slots .count) (slots .at) (omega arith)
@@ -148,7 +146,7 @@ module _ (list : List ℕ) {words : List ℕ} {slots : Slots} (out : List ℕ) {
     wrote = λ p q g a.
         let s : PutsBodies mid after at words slots (t .matrix .members) next = rw (e, members-named g) at puts in
         whole-batch g a (head-wrote g 2 256 (slots .count) (a .room) e (bodiesBytes (t .matrix .members) (events words slots)) (bodies-long g a) said w told (s .puts a));
-    kept = λ j again. written-clash again;
+    kept = λ j again. next-clash again;
   }
 
 -- ---- sinces
@@ -200,7 +198,7 @@ module _ (list : List ℕ) {p : List ℕ} (out : List ℕ) {t : Tcsb} {h : Head}
     wrote = λ g.
         let s : PutsExceptions mid after at p (t .inbox .order) (t .matrix .members) next = rw (e, members-named g) at puts in
         whole-since g (head-wrote g 3 64 (t .inbox .order .count) (waiting-writable g .1) e (idsBytes (events p (t .inbox .order))) (ids-long g) said w told (s .puts (waiting-writable g .0)));
-    kept = λ j again. written-clash again;
+    kept = λ j again. next-clash again;
     short = λ f. long-enough p room f;
   }
 

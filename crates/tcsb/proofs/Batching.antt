@@ -34,9 +34,10 @@ use Rattle.tcsb.specs.Replica.{State, members, own, Call, done, not-done
 use Rattle.tcsb.specs.Tcsb.{view, Stores, withStores, withKnown, Good, Does, DoesIf}
 use Rattle.tcsb.specs.Receive.{roomOf}
 use Rattle.tcsb.specs.Survey.{notCounted, countedTold, Surveys, SurveysAll, RecordsAll, Admits}
+use Rattle.tcsb.proofs.Valid.{members-range}
 use Rattle.tcsb.proofs.Heard.{BodyHeard, bodies-heard, batch-heard}
 use Rattle.tcsb.proofs.Admitted.{AdmittedRow}
-use Rattle.tcsb.proofs.Receiving.{changed, few-members, heard-row, batch-well}
+use Rattle.tcsb.proofs.Receiving.{changed, heard-row, batch-well}
 use Rattle.tcsb.proofs.Storing.{taken-fixed}
 use Rattle.tcsb.proofs.Calls.{refused-if, refused-call, does-part, not-both}
 use Rattle.tcsb.proofs.Counting.{events-length}
@@ -227,7 +228,7 @@ module _ {list p p′ q q′ s : List ℕ} {t r : Tcsb} {b : Batch} {row : Trans
       let room = room-done (t .inbox .order .count + v .survey .waiting) (t .outbox .order .count + v .survey .kept) (sym eo ∙ ed) in
       let heard = bodies-heard (b .head .names .count) s (b .count) (b .bodies) (J .bodies) (J .end) (J .reads) in
       let R = ra .puts (J .bodies) (J .end) (g .sound .stores) (J .heard .good .few) (J .names) (J .reads)
-      (λ y m. event-in-range s y (few-members (g .well)) (J .heard) (heard y m)) in
+      (λ y m. event-in-range s y (members-range (g .well) .1) (J .heard) (heard y m)) in
       let same = taken-fixed t t list [] p p q q es refl in
       record {
         es = es;
@@ -300,7 +301,7 @@ admitted-told : (list p q s : List ℕ) (t : Tcsb) (b : Batch) (a : Translated) 
 unfolding admitted
 admitted-told list p q s t b a e h g =
     let n = count-texts list (t .names) in
-    ap rowTold (h (omega (arith, n, g .well .listed, few-members (g .well))) (batch-heard s b e .few) (λ i. g .well .known i .few))
+    ap rowTold (h (omega (arith, n, g .well .listed, members-range (g .well) .1)) (batch-heard s b e .few) (λ i. g .well .known i .few))
     ∙ row-told (admittedBy (texts list (t .names)) (t .known) (t .matrix .origin .0) (texts s (b .head .names)) (b .head .sender .0))
 
 -- ---- the call

@@ -20,7 +20,7 @@ use Rattle.tcsb.specs.WellFormed.{GoodEntries, GoodRow, WellFormed}
 use Rattle.tcsb.proofs.Places.{tab-each}
 use Rattle.tcsb.proofs.Valid.{facts-valid, counts-range}
 
-zero-at : (j : ℕ) → at zeroEntries j ≡ 0
+pub zero-at : (j : ℕ) → at zeroEntries j ≡ 0
 zero-at j = tab-each {A = ℕ} 16 0 j
 
 pub zero-good : GoodEntries zeroEntries

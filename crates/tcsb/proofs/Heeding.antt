@@ -27,10 +27,11 @@ use Rattle.tcsb.specs.Internalizer.{noTranslation, translated, ourPlace,
 use Rattle.tcsb.specs.Replica.{State, members, own, Call, done, not-done, answerOf, stateAfter, first, admittedBy, admitted, extended, misnumbered, verdictOf, recorded, receiveOf}
 use Rattle.tcsb.specs.Tcsb.{hasWords, withKnown, view, Stores, Good, Does, DoesIf}
 use Rattle.tcsb.specs.Receive.{notReceived, receiptTold, Takes}
+use Rattle.tcsb.proofs.Valid.{members-range}
 use Rattle.tcsb.proofs.Admitted.{AdmittedRow}
 use Rattle.tcsb.proofs.Heard.{event-heard}
 use Rattle.tcsb.proofs.Placing.{told-refused, told-whole}
-use Rattle.tcsb.proofs.Receiving.{few-members, heard-row, event-arrived, received-well}
+use Rattle.tcsb.proofs.Receiving.{heard-row, event-arrived, received-well}
 use Rattle.tcsb.proofs.Calls.{few-names, refused-if, refused-call, does-short, words-none, does-part}
 
 -- ---- a telegram that was read
@@ -118,7 +119,7 @@ module _ (t : Tcsb) (list p q s : List ℕ) (names : Names) (body : Body) where
     in-range : inRange e ≡ true
     in-range =
         let h = event-arrived (g .well) row-is s body (event-heard s (record { names = names; body = body }) f .1) (T .numbered) (row-is .other) .good in
-        rw (event-is, lt-ltb (eventOf (r .row) s body .origin .0) 16 (omega (arith, h .member, few-members (g .well))), le-leb (eventOf (r .row) s body .len) 32 (h .short)) refl
+        rw (event-is, lt-ltb (eventOf (r .row) s body .origin .0) 16 (omega (arith, h .member, members-range (g .well) .1)), le-leb (eventOf (r .row) s body .len) 32 (h .short)) refl
 
     want-is : receiveOf means s ≡ first (recorded means (e ∷ [])) (λ after. done (verdictOf means e) (extended after (ourPlace (r .row) (body .place .0)) (r .row)))
     want-is = heard-of means s names body f ∙ rw (row-told, T .numbered, event-is) refl

@@ -158,15 +158,6 @@ has-append o n (x ∷ es) e = rw (has-append o n es e) (sym (or-assoc (idIs o n 
 
 -- ---- a list and one more
 
-pub keep-append : {A : Type 0} (p : A → Bool) (l m : List A) → keep p (l ++ m) ≡ keep p l ++ keep p m
-unfolding keep
-keep-append p [] m = refl
-keep-append {A} p (x ∷ l) m = go (p x) (keep-append p l m)
-  where
-    go : (b : Bool) → keep p (l ++ m) ≡ keep p l ++ keep p m → cond b (x ∷ keep p (l ++ m)) (keep p (l ++ m)) ≡ cond b (x ∷ keep p l) (keep p l) ++ keep p m
-    go true h = ap (λ (r : List A). x ∷ r) h
-    go false h = h
-
 pub keep-yes : {A : Type 0} (p : A → Bool) (x : A) → p x ≡ true → keep p (x ∷ []) ≡ x ∷ []
 unfolding keep
 keep-yes p x h = rw h refl

@@ -19,8 +19,8 @@ use Rattle.store.specs.declared.order.Slots.{Slots}
 use Rattle.store.specs.Words.{eventAt}
 use Rattle.store.specs.Orders.{In, HasId, Sorted, events}
 use Rattle.store.proofs.Sorting.{before-other}
-use Rattle.tcsb.specs.Replica.{State, Pick, none, at-place, members, ownRow, readyBy, isReady, firstReady, namedReady}
-use Rattle.tcsb.specs.Delivery.{noEvent, entryReady, pickPlace, FirstReady}
+use Rattle.tcsb.specs.Replica.{entryReady, State, Pick, none, at-place, members, ownRow, readyBy, isReady, firstReady, namedReady}
+use Rattle.tcsb.specs.Delivery.{noEvent, pickPlace, FirstReady}
 use Rattle.tcsb.specs.declared.delivery.Pick.the-variants as pick
 use Rattle.tcsb.proofs.Places.{same-or-other, in-at}
 use Rattle.tcsb.proofs.Placing.{Passed, passed-all}

@@ -1,6 +1,6 @@
 -- What a replica always satisfies is kept by receive, batch and pull. Assumes nothing.
 use mathlib.Core.Path.{_≡_, refl, _∙_}
-use mathlib.Core.Bool.{Bool, true, false, cond, not, _&&_}
+use mathlib.Core.Bool.{Bool, true, false, cond, not}
 use mathlib.Core.List.{List, [], _∷_, map, List·Memᴰ·head, List·Memᴰ·tail, Memᴰ·of-map}
 use mathlib.Core.Logic.{⊎-elim}
 use Prim.Native.Nat.{ℕ, _≤_, _<_}
@@ -10,8 +10,7 @@ use lib.Dec.{leb, eqb}
 use borrow.Author.Tests.{leb-true, leb-false, eqb-false}
 use Rattle.refusal.specs.declared.Refusal.{Refusal}
 use Rattle.refusal.specs.Refusal.{no}
-use Rattle.lists.specs.Lists.{at, all}
-use Rattle.lists.proofs.Laws.{and-both}
+use Rattle.lists.specs.Lists.{at}
 use Rattle.lists.proofs.Joined.{Each, each-none, each-more}
 use Rattle.clock.specs.Entries.{atMost}
 use Rattle.clock.specs.Matrix.{cell}
@@ -28,8 +27,9 @@ use Rattle.store.proofs.Sorting.{insert-in, insert-sorted, keep-in}
 use Rattle.tcsb.specs.declared.internalizer.Translation.{Translation}
 use Rattle.tcsb.specs.declared.receive.Verdict.the-variants.{Taken, Duplicate, Stale}
 use Rattle.tcsb.specs.Internalizer.{noTranslation, ourPlace, eventOf}
-use Rattle.tcsb.specs.Replica.{State, members, own, cut, Call, not-done, stateAfter, first, countsFit, admitted, extended, misnumbered, isDuplicate, isStale, verdictOf, isTaken, takenOf, insertAll, recorded, receiveOf, someOwn, someMisnumbered, batchOf, pullOf}
+use Rattle.tcsb.specs.Replica.{State, members, own, cut, Call, not-done, stateAfter, first, admitted, extended, misnumbered, isDuplicate, isStale, verdictOf, isTaken, takenOf, insertAll, recorded, receiveOf, someOwn, someMisnumbered, batchOf, pullOf}
 use Rattle.tcsb.specs.WellFormed.{GoodRow, GoodEvent, Waits, Kept, WellFormed}
+use Rattle.tcsb.proofs.Valid.{members-range}
 use Rattle.tcsb.proofs.Heard.{BodyHeard, ListHeard, bodies-heard, event-heard, batch-heard, since-heard}
 use Rattle.tcsb.proofs.Admitted.{AdmittedRow, admitted-is}
 use Rattle.tcsb.proofs.Translated.{set-keeps, or-neither, event-good}
@@ -190,15 +190,6 @@ module _ {B : Type 0} {st : State} (w : WellFormed st) where
 
 -- ---- rows of what is read
 
--- at most sixteen members
-pub few-members : {st : State} → WellFormed st → members st ≤ 16
-unfolding countsFit
-few-members {st} w =
-    let n = length (st .names) in
-    let a = and-both (leb 2 n && leb n 16) (all n (λ i. leb 1 (length (getD (st .names) i [])) && leb (length (getD (st .names) i [])) 16)) (w .counts) in
-    let b = and-both (leb 2 n) (leb n 16) (a .0) in
-    omega (arith, leb-true n 16 (b .1), w .listed)
-
 -- the row of a list that is read and admitted
 pub heard-row : {st : State} {s : List ℕ} {l : Names} {sender : ℕ} (row : Translation) → WellFormed st → ListHeard s l sender → admitted st (texts s l) sender ≡ whole row
     → AdmittedRow (members st) (own st) (l .count) sender row
@@ -209,7 +200,7 @@ heard-row {st} {s} {l} {sender} row w h e =
 pub event-arrived : {st : State} {count sender : ℕ} {row : Translation} → WellFormed st → AdmittedRow (members st) (own st) count sender row → (s : List ℕ) (b : Body) → BodyHeard count b
     → misnumbered b ≡ false → (ourPlace row (b .place .0) ≡ own st → ⊥) → Arrived st (eventOf row s b)
 unfolding eventOf
-event-arrived w r s b h m o = record { good = event-good (few-members w) (r .good) s b (rw (r .counts) h) m; other = o }
+event-arrived w r s b h m o = record { good = event-good (members-range w .1) (r .good) s b (rw (r .counts) h) m; other = o }
 
 -- ---- receive
 

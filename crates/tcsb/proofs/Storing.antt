@@ -22,7 +22,8 @@ use Rattle.tcsb.specs.Replica.{verdictBy, verdictOf, isDuplicate, isStal
 use Rattle.tcsb.specs.Tcsb.{view, Stores, withStores}
 use Rattle.tcsb.specs.Receive.{Recorded}
 use Rattle.tcsb.specs.Survey.{Records, RecordsBody, RecordsAll}
-use Rattle.tcsb.proofs.Inserting.{insert-all-append, insert-all-one, insert-all-none, insert-all-long, keep-append, keep-yes, keep-no, map-append}
+use Rattle.store.proofs.Pruning.{keep-append}
+use Rattle.tcsb.proofs.Inserting.{insert-all-append, insert-all-one, insert-all-none, insert-all-long, keep-yes, keep-no, map-append}
 use Rattle.tcsb.proofs.Surveying.{verdict-by}
 use Rattle.tcsb.proofs.Walked.{Reached, reach-none, reach-more, reach-bad, reach-all, body-done, body-refused}
 

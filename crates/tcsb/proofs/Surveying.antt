@@ -36,7 +36,8 @@ use Rattle.tcsb.specs.Replica.{State, misnumbered, verdictBy, verdictOf,
 use Rattle.tcsb.specs.Tcsb.{view}
 use Rattle.tcsb.specs.Receive.{newTo}
 use Rattle.tcsb.specs.Survey.{hasId, withId, hasIn, raisedTally, noSurvey, Long, Few, notedBy, Surveys, SurveysMore, SurveysAll}
-use Rattle.tcsb.proofs.Inserting.{idIs, is-id, has-append, one-again, one-more, keep-append, keep-yes, keep-no, count-append, own-append, misnumbered-append, map-append, insert-all-none}
+use Rattle.store.proofs.Pruning.{keep-append}
+use Rattle.tcsb.proofs.Inserting.{idIs, is-id, has-append, one-again, one-more, keep-yes, keep-no, count-append, own-append, misnumbered-append, map-append, insert-all-none}
 use Rattle.tcsb.proofs.Walked.{Reached, reach-none, reach-more, reach-bad, reach-all, body-done, body-refused}
 
 -- ---- ids
@@ -89,7 +90,7 @@ module _ (ids : Ids) (o n : ℕ) where
   other-number k h = rw (ne-eqb (at (ids .numbers) k) n h) (and-false (eqb (at (ids .origins) k) o))
 
 -- one id more
-with-id : (ids : Ids) (a b o n : ℕ) → ids .count < length (ids .origins) → ids .count < length (ids .numbers)
+pub with-id : (ids : Ids) (a b o n : ℕ) → ids .count < length (ids .origins) → ids .count < length (ids .numbers)
     → hasId (withId ids a b) o n ≡ (hasId ids o n || (eqb a o && eqb b n))
 unfolding any
 with-id ids a b o n f g =

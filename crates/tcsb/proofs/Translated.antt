@@ -6,21 +6,21 @@ use mathlib.Core.Logic.{⊎-elim}
 use Prim.Native.Nat.{ℕ, zero, suc, _≤_, _<_}
 use native.Mathlib.Nat.{not-suc-le-zero}
 use native.Mathlib.Omega.{arith}
-use lib.ListN.{length, getD, set, length-set, List·getD-eq-default}
+use lib.ListN.{length, getD, set, length-set}
 use lib.Seq.{getD-set-same, getD-set-other}
 use lib.Dec.{eqb}
 use borrow.Author.Tests.{eqb-true, eqb-false, not-false}
 use Rattle.lists.specs.Lists.{at}
 use Rattle.lists.proofs.Cases.{split}
-use Rattle.lists.proofs.Laws.{length-tab, getD-tab}
+use Rattle.lists.proofs.Laws.{length-tab}
 use Rattle.leb128.specs.Leb128.{lastNumber}
-use Rattle.clock.specs.Entries.{zeroEntries}
 use Rattle.telegram.specs.Fields.{text}
 use Rattle.telegram.specs.declared.body.Body.{Body}
 use Rattle.tcsb.specs.declared.internalizer.Translation.{Translation}
 use Rattle.tcsb.specs.Internalizer.{ourPlace, ourEntries, eventOf}
 use Rattle.tcsb.specs.Replica.{misnumbered}
 use Rattle.tcsb.specs.WellFormed.{GoodRow, GoodEvent}
+use Rattle.tcsb.proofs.Founding.{zero-at}
 use Rattle.tcsb.proofs.Heard.{BodyHeard}
 
 -- an element behind a write is the one written, or the one that was there
@@ -30,12 +30,6 @@ set-keeps P (y ∷ l) zero x zero d f h = f refl
 set-keeps P (y ∷ l) zero x (suc k) d f h = h
 set-keeps P (y ∷ l) (suc i) x zero d f h = h
 set-keeps P (y ∷ l) (suc i) x (suc k) d f h = set-keeps P l i x k d (λ e. f (ap suc e)) h
-
-zero-at : (j : ℕ) → at zeroEntries j ≡ 0
-zero-at j =
-    ⊎-elim (λ lt. getD-tab {A = ℕ} 0 16 (λ j. 0) j lt)
-    (λ le. List·getD-eq-default zeroEntries 0 {n = j} (omega (arith, length-tab {A = ℕ} 16 (λ j. 0))))
-    (split j 16)
 
 -- ---- entries
 

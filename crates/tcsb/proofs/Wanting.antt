@@ -1,12 +1,12 @@
 -- Which events a requester wants: exceptions as ids, and the slots of the events that are left. Assumes nothing.
 use mathlib.Core.Path.{_≡_, refl, sym, ap, _∙_}
-use mathlib.Core.Bool.{Bool, true, false, cond, not, _&&_, _||_}
+use mathlib.Core.Bool.{Bool, true, false, not, _&&_, _||_}
 use mathlib.Core.List.{List, [], _∷_, _++_, map, append-assoc, append-nil}
-use Prim.Native.Nat.{ℕ, zero, suc, _+_, _-_, _≤_, _<_, min}
+use Prim.Native.Nat.{ℕ, suc, _+_, _-_, _≤_, _<_, min}
 use native.Mathlib.Omega.{arith}
 use native.Mathlib.Numerals.{add-one}
-use lib.ListN.{length, getD, set, take, length-set}
-use lib.Seq.{take-suc, take-suc-set, getD-set-same, getD-set-other}
+use lib.ListN.{length, getD, take, length-set}
+use lib.Seq.{take-suc, take-suc-set}
 use lib.Dec.{eqb, ltb}
 use borrow.Author.Tests.{eq-eqb, ne-eqb}
 use Rattle.refusal.specs.declared.Refusal.{Refusal}
@@ -27,27 +27,12 @@ use Rattle.tcsb.specs.Survey.{hasId, withId, noIds}
 use Rattle.tcsb.specs.Writing.{pushed, wantedBy}
 use Rattle.tcsb.specs.declared.internalizer.Translation.{Translation}
 use Rattle.tcsb.specs.declared.batch.Ids.{Ids}
+use Rattle.store.proofs.Pruning.{keep-append}
+use Rattle.tcsb.proofs.Inserting.{keep-yes, keep-no}
+use Rattle.tcsb.proofs.Surveying.{with-id}
 use Rattle.tcsb.proofs.Bodies.{eventIn}
 
 -- ---- ids
-
-any-same : (n : ℕ) (p q : ℕ → Bool) → ((j : ℕ) → j < n → p j ≡ q j) → any n p ≡ any n q
-unfolding any
-any-same zero p q h = refl
-any-same (suc n) p q h = rw (any-same n p q (λ j lt. h j (omega arith)), h n (omega arith)) refl
-
--- an id put behind the others is one of them
-with-has : (ids : Ids) (o n a b : ℕ) → ids .count < length (ids .origins) → ids .count < length (ids .numbers) → hasId (withId ids o n) a b ≡ (hasId ids a b || (eqb o a && eqb n b))
-unfolding any
-with-has ids o n a b lo ln =
-    let k : ℕ = ids .count in
-    let old : ℕ → Bool = λ j. eqb (at (ids .origins) j) a && eqb (at (ids .numbers) j) b in
-    let new : ℕ → Bool = λ j. eqb (at (set (ids .origins) k o) j) a && eqb (at (set (ids .numbers) k n) j) b in
-    let low : any k new ≡ any k old =
-    any-same k new old (λ j lt. rw (getD-set-other (ids .origins) k j o 0 (λ q. omega arith), getD-set-other (ids .numbers) k j n 0 (λ q. omega arith)) refl)
-    in
-    let last : new k ≡ (eqb o a && eqb n b) = rw (getD-set-same (ids .origins) k o 0 lo, getD-set-same (ids .numbers) k n 0 ln) refl in
-    rw (add-one, low, last) refl
 
 -- an exception behind the others
 excepted-more : (row : Translation) (l : List Exception) (x : Exception) (e : Event)
@@ -111,7 +96,7 @@ module _ {row : Translation} {f : ℕ → Got Exception} {n at : ℕ} where
     numbers = ap (λ (i : Ids). length (i .numbers)) e ∙ (length-set (ids .numbers) (ids .count) (x .number) ∙ M .numbers);
     has = λ y.
         ap (λ (i : Ids). hasId i (y .origin .0) (y .number)) e
-        ∙ (with-has ids place (x .number) (y .origin .0) (y .number) (omega (arith, M .counts, M .few, M .origins)) (omega (arith, M .counts, M .few, M .numbers))
+        ∙ (with-id ids place (x .number) (y .origin .0) (y .number) (omega (arith, M .counts, M .few, M .origins)) (omega (arith, M .counts, M .few, M .numbers))
         ∙ (rw (M .has y, here) refl ∙ sym (excepted-more row (M .read) x y)));
     rest =
         let q : n - i ≡ suc (n - (i + 1)) = omega arith in
@@ -143,23 +128,6 @@ module _ {row : Translation} {n at : ℕ} {ids : Ids} {i next : ℕ} (f : ℕ �
       rw (← same) (M .has e)
 
 -- ---- the slots of the events that pass a test
-
-keep-append : {A : Type 0} (t : A → Bool) (l m : List A) → keep t (l ++ m) ≡ keep t l ++ keep t m
-unfolding keep
-keep-append {A} t [] m = refl
-keep-append {A} t (x ∷ l) m = rw (keep-append t l m) (pick (t x))
-  where
-    pick : (b : Bool) → cond b (x ∷ (keep t l ++ keep t m)) (keep t l ++ keep t m) ≡ cond b (x ∷ keep t l) (keep t l) ++ keep t m
-    pick true = refl
-    pick false = refl
-
-keep-yes : {A : Type 0} (t : A → Bool) (x : A) → t x ≡ true → keep t (x ∷ []) ≡ x ∷ []
-unfolding keep
-keep-yes t x e = rw e refl
-
-keep-no : {A : Type 0} (t : A → Bool) (x : A) → t x ≡ false → keep t (x ∷ []) ≡ []
-unfolding keep
-keep-no t x e = rw e refl
 
 -- tests that agree
 pub keep-same : {A : Type 0} (t u : A → Bool) (l : List A) → ((x : A) → t x ≡ u x) → keep t l ≡ keep u l

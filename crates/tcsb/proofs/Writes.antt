@@ -21,7 +21,8 @@ use Rattle.tcsb.proofs.Calls.{good-after, outbox-words, writes-short, r
 use Rattle.tcsb.specs.declared.tcsb.Tcsb.{Tcsb}
 use Rattle.tcsb.specs.declared.writing.Sent.{Sent}
 
-next-clash : {A : Type 0} {n : ℕ} {k : Refusal} → written.Next n ≡ written.Refused k → A
+-- what was written is not refused
+pub next-clash : {A : Type 0} {n : ℕ} {k : Refusal} → written.Next n ≡ written.Refused k → A
 next-clash e = let z : _≡_ {A = ℕ} 0 1 = cc in absurd (omega arith)
 
 -- ---- the parts, from a fact on

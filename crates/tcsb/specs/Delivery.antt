@@ -1,10 +1,8 @@
 -- The steps of a delivery. Assumes nothing.
-use Prim.Native.Nat.{ℕ, _+_, _<_, _≤_}
+use Prim.Native.Nat.{ℕ, _<_, _≤_}
 use mathlib.Core.Path.{_≡_}
-use mathlib.Core.Bool.{Bool, cond}
 use mathlib.Core.List.{List, [], _∷_}
 use lib.ListN.{length, getD}
-use lib.Dec.{leb, eqb}
 use Rattle.refusal.specs.declared.Refusal.{Refusal}
 use Rattle.lists.specs.Lists.{tab}
 use Rattle.clock.specs.declared.version_vector.Row.{Row}
@@ -57,9 +55,6 @@ abbrev pub stableTold : Stable → Whole (List CausalFrontier)
 stableTold r = movedTo (r .moved) (r .frontier)
 
 -- ---- which event is ready
-
-abbrev pub entryReady : ℕ → ℕ → Bool → Bool
-entryReady ours entry origin = cond origin (eqb entry (ours + 1)) (leb entry ours)
 
 abbrev pub pickPlace : replica.Pick → Pick
 pickPlace replica.none = pick.None

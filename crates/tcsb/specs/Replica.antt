@@ -286,10 +286,11 @@ sendOf st operation =
 -- ---- next
 
 -- an event is ready when its origin entry is ours plus one and each other entry is at most ours
+abbrev pub entryReady : ℕ → ℕ → Bool → Bool
+entryReady ours entry origin = cond origin (eqb entry (ours + 1)) (leb entry ours)
+
 abbrev pub readyBy : ℕ → List ℕ → Event → Bool
-readyBy n row e =
-    all n (λ j.
-    cond (eqb j (e .origin .0)) (eqb (at (e .version .entries) j) (at row j + 1)) (leb (at (e .version .entries) j) (at row j)))
+readyBy n row e = all n (λ j. entryReady (at row j) (at (e .version .entries) j) (eqb j (e .origin .0)))
 
 unfoldable pub isReady : State → Event → Bool
 isReady st e = readyBy (members st) (ownRow st) e
@@ -386,8 +387,11 @@ unfoldable pub isExcepted : Translation → List Exception → Event → Bool
 isExcepted row [] e = false
 isExcepted row (x ∷ xs) e = (eqb (ourPlace row (x .place .0)) (e .origin .0) && eqb (x .number) (e .number)) || isExcepted row xs e
 
+abbrev pub wantedUnless : ℕ → List ℕ → Bool → Event → Bool
+wantedUnless requester requested excepted e = not (eqb (e .origin .0) requester) && (above requested e && not excepted)
+
 unfoldable pub isWanted : Translation → ℕ → List ℕ → List Exception → Event → Bool
-isWanted row requester requested excepted e = not (eqb (e .origin .0) requester) && (above requested e && not (isExcepted row excepted e))
+isWanted row requester requested excepted e = wantedUnless requester requested (isExcepted row excepted e) e
 
 unfoldable pub pullOf : State → List ℕ → Call (List ℕ)
 pullOf st s =

@@ -1,10 +1,9 @@
 -- The steps of what the replica writes: events out of their slots, and which of them. Assumes nothing.
 use Prim.Native.Nat.{ℕ, _+_, _<_, _≤_}
 use mathlib.Core.Path.{_≡_}
-use mathlib.Core.Bool.{Bool, not, _&&_}
+use mathlib.Core.Bool.{Bool}
 use mathlib.Core.List.{List}
 use lib.ListN.{length, set}
-use lib.Dec.{eqb}
 use Rattle.refusal.specs.declared.Refusal.{Refusal}
 use Rattle.lists.specs.Lists.{joined}
 use Rattle.leb128.specs.declared.Written.{Written}
@@ -23,8 +22,8 @@ use Rattle.telegram.specs.declared.since.Since.{Since}
 use Rattle.store.specs.declared.event.Event.{Event}
 use Rattle.store.specs.declared.order.Slots.{Slots}
 use Rattle.store.specs.Words.{eventAt}
-use Rattle.store.specs.Orders.{In, events, keep, above}
-use Rattle.tcsb.specs.Replica.{admitted, writtenBody, batchWritten, exceptionOf, isExcepted, flushed, frontierCall, members}
+use Rattle.store.specs.Orders.{In, events, keep}
+use Rattle.tcsb.specs.Replica.{admitted, writtenBody, batchWritten, exceptionOf, isExcepted, wantedUnless, flushed, frontierCall, members}
 use Rattle.tcsb.specs.Tcsb.{view, Good}
 use Rattle.tcsb.specs.Survey.{hasId}
 use Rattle.tcsb.specs.declared.internalizer.Translation.{Translation}
@@ -109,7 +108,7 @@ pushed slots x = record { at = set (slots .at) (slots .count) x; count = slots .
 -- ---- pull
 
 abbrev pub wantedBy : ℕ → List ℕ → Ids → Event → Bool
-wantedBy requester requested ids e = not (eqb (e .origin .0) requester) && (above requested e && not (hasId ids (e .origin .0) (e .number)))
+wantedBy requester requested ids e = wantedUnless requester requested (hasId ids (e .origin .0) (e .number)) e
 
 pub record Wants (p : List ℕ) (order : Slots) (requester : ℕ) (requested : List ℕ) (ids : Ids) (r : Slots) : Type 0 where
   pub few : r .count ≤ 256

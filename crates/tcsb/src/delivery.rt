@@ -24,9 +24,9 @@ ghost use mathlib.Core.List.{List, []};
 ghost use lib.ListN.{length};
 ghost use lib.Dec.{leb};
 ghost use Rattle.telegram.specs.Reading.{whole, refused};
-ghost use Rattle.tcsb.specs.Replica.{readyBy, nextCall, deliverCall, stableCall};
+ghost use Rattle.tcsb.specs.Replica.{entryReady, readyBy, nextCall, deliverCall, stableCall};
 ghost use Rattle.tcsb.specs.Tcsb.{Does};
-ghost use Rattle.tcsb.specs.Delivery.{entryReady, noEvent, FirstReady, deliveredTold, deliveredOf, DeliversAt, stableTold};
+ghost use Rattle.tcsb.specs.Delivery.{noEvent, FirstReady, deliveredTold, deliveredOf, DeliversAt, stableTold};
 
 // What next and a named delivery answer.
 pub enum Delivery {
