@@ -6,7 +6,7 @@ use crate::id::{EventId, ReplicaIdx, Tested};
 use crate::version_vector::{Compared, Row, SeqRead, Summed, Version, fit};
 use refusal::{Outcome, Refusal};
 
-#[derive(Drop)]
+#[derive(Clone, Copy)]
 pub struct CausalFrontier {
     pub members: usize,
     pub row: Row,

@@ -6,10 +6,10 @@ use crate::version_vector::{Version, fit};
 use refusal::{Outcome, Refusal};
 
 // A member's place in our own list.
-#[derive(Drop)]
+#[derive(Clone, Copy)]
 pub struct ReplicaIdx(pub usize);
 
-#[derive(Drop)]
+#[derive(Clone, Copy)]
 pub struct EventId {
     pub idx: ReplicaIdx,
     pub seq: u32,

@@ -10,7 +10,7 @@ use crate::version_vector::{MEMBERS, Row, Version, VersionAnswer, clamp, fit, pi
 use crate::{causal_frontier, version_vector};
 use refusal::{Outcome, Refusal};
 
-#[derive(Drop)]
+#[derive(Clone, Copy)]
 pub struct MatrixClock {
     pub members: usize,
     pub origin: ReplicaIdx,
@@ -18,7 +18,7 @@ pub struct MatrixClock {
 }
 
 // The columns that the last delivery raised: the list of document 01, a mark for each place.
-#[derive(Drop)]
+#[derive(Clone, Copy)]
 pub struct Columns {
     pub raised: [bool; 16],
 }

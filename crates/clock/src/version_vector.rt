@@ -13,12 +13,12 @@ pub const MEMBERS: usize = 16;
 pub const LAST_NUMBER: u32 = 4294967295;
 
 // One entry per member, by place; the entries behind the members are there and mean nothing.
-#[derive(Drop)]
+#[derive(Clone, Copy)]
 pub struct Row {
     pub entries: [u32; 16],
 }
 
-#[derive(Drop)]
+#[derive(Clone, Copy)]
 pub struct Version {
     pub members: usize,
     pub origin: ReplicaIdx,

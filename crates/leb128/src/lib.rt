@@ -1,4 +1,6 @@
 // A telegram number: unsigned LEB128 (DWARF 4, section 7.6) in its shortest form, at most five bytes, 0 to 4,294,967,295.
+#![tactic(auto)]
+
 ghost use Rattle.std.specs.Prelude.{◌≡◌, cond, ◌||◌, ◌&&◌, ◌+◌, ◌*◌, ◌<◌, ◌≤◌, ltb, eqb, length};
 ghost use Rattle.lists.specs.Lists.{laid};
 ghost use Rattle.refusal.specs.Refusal.{no};

@@ -1,4 +1,6 @@
 // Replays uleb128.txt of its working directory, numbers and their bytes as another program wrote them, against the crate leb128.
+#![tactic(auto)]
+
 ghost use Rattle.std.specs.Prelude.{◌<◌, ◌≤◌, length};
 
 use leb128::{NumberRead, Written};

@@ -1,8 +1,10 @@
 // The refusal numbers of document 01's table, one case each. Every layer answers with them.
+#![tactic(auto)]
+
 ghost use Rattle.std.specs.Prelude.{◌≡◌};
 ghost use Rattle.refusal.specs.Refusal.{number_of};
 
-#[derive(Drop)]
+#[derive(Clone, Copy)]
 pub enum Refusal {
     // 1: the telegram ends inside a field
     EndsInField,
@@ -37,7 +39,7 @@ pub enum Refusal {
 }
 
 // What a call that answers with no value of its own ends with.
-#[derive(Drop)]
+#[derive(Clone, Copy)]
 pub enum Outcome {
     Done,
     Refused(Refusal),

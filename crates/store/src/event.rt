@@ -7,7 +7,7 @@ use clock::id::ReplicaIdx;
 use clock::version_vector::Row;
 
 // One version entry per member, by our own places; the operation is the first `len` bytes, 0 behind them.
-#[derive(Drop)]
+#[derive(Clone, Copy)]
 pub struct Event {
     pub origin: ReplicaIdx,
     pub number: u32,

@@ -11,7 +11,7 @@ use clock::version_vector::{MEMBERS, Row};
 pub const SLOTS: usize = 256;
 
 // The first `count` are meant.
-#[derive(Drop)]
+#[derive(Clone, Copy)]
 pub struct Slots {
     pub at: [u8; 256],
     pub count: usize,

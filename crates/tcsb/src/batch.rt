@@ -17,7 +17,7 @@ use telegram::body::{Body, read_body};
 const IDS: usize = 256;
 
 // How many events of a batch were taken, duplicate and stale.
-#[derive(Drop)]
+#[derive(Clone, Copy)]
 pub struct Tally {
     pub taken: usize,
     pub duplicate: usize,
@@ -38,7 +38,7 @@ pub struct BatchReceived {
 }
 
 // The ids of a batch's events that are to be taken, each once.
-#[derive(Drop)]
+#[derive(Clone, Copy)]
 pub struct Ids {
     pub(crate) origins: [usize; 256],
     pub(crate) numbers: [u32; 256],
@@ -47,7 +47,7 @@ pub struct Ids {
 
 // What a walk over a batch's bodies found: whether an origin is ourselves, whether an event is numbered wrong, the tally, the ids to be taken,
 // and how many of those are new to the inbox and to the outbox.
-#[derive(Drop)]
+#[derive(Clone, Copy)]
 pub struct Survey {
     pub(crate) own: bool,
     pub(crate) misnumbered: bool,

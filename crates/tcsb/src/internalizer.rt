@@ -15,7 +15,7 @@ use telegram::field::Part;
 use telegram::list::{MEMBERS, Names, same_text};
 
 // Our places of the names that a sender lists, by their places in its list; 0 behind them.
-#[derive(Drop)]
+#[derive(Clone, Copy)]
 pub struct Translation {
     pub count: usize,
     pub places: [u8; 16],

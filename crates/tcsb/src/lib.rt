@@ -1,4 +1,6 @@
 // The replica: Tcsb's calls over clocks, telegrams and stores.
+#![tactic(auto)]
+
 pub mod batch;
 pub mod delivery;
 pub mod internalizer;

@@ -19,7 +19,7 @@ use telegram::event::read_event;
 use telegram::list::{MEMBERS, Names};
 
 // What becomes of an event that is received.
-#[derive(Drop)]
+#[derive(Clone, Copy)]
 pub enum Verdict {
     Taken,
     Duplicate,

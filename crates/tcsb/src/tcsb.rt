@@ -25,14 +25,14 @@ pub const INBOX: usize = 1728;
 pub const OUTBOX: usize = 6912;
 
 // The slots of a store's events by their ids, and those that are free.
-#[derive(Drop)]
+#[derive(Clone, Copy)]
 pub struct Store {
     pub(crate) order: Slots,
     pub(crate) free: Slots,
 }
 
 // The names are parts of the member list, which the caller lends, too.
-#[derive(Drop)]
+#[derive(Clone, Copy)]
 pub struct Tcsb {
     pub(crate) names: Names,
     pub(crate) matrix: MatrixClock,

@@ -17,7 +17,7 @@ const KIND: u32 = 2;
 pub const EVENTS: u32 = 256;
 
 // So many bodies from a place on, each read by itself with `read_body`.
-#[derive(Drop)]
+#[derive(Clone, Copy)]
 pub struct Batch {
     pub head: Head,
     pub count: usize,

@@ -13,11 +13,11 @@ use leb128::{NumberRead, Written};
 use refusal::{Outcome, Refusal};
 
 // A place in a sender's list, which is no place in ours.
-#[derive(Drop)]
+#[derive(Clone, Copy)]
 pub struct Place(pub usize);
 
 // One version entry per listed name, 0 behind them; the operation is a part of the bytes that hold the body.
-#[derive(Drop)]
+#[derive(Clone, Copy)]
 pub struct Body {
     pub place: Place,
     pub number: u32,

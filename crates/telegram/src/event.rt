@@ -12,7 +12,7 @@ use refusal::{Outcome, Refusal};
 const KIND: u32 = 1;
 
 // The sender of an event telegram is its origin.
-#[derive(Drop)]
+#[derive(Clone, Copy)]
 pub struct Event {
     pub names: Names,
     pub body: Body,

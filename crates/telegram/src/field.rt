@@ -9,7 +9,7 @@ use leb128::{NumberRead, Written};
 use refusal::Refusal;
 
 // A part of a slice of bytes.
-#[derive(Drop)]
+#[derive(Clone, Copy)]
 pub struct Part {
     pub start: usize,
     pub len: usize,

@@ -12,7 +12,7 @@ use leb128::{NumberRead, Written};
 use refusal::{Outcome, Refusal};
 
 // The sender's version has one entry per listed name, 0 behind them.
-#[derive(Drop)]
+#[derive(Clone, Copy)]
 pub struct Head {
     pub names: Names,
     pub sender: Place,

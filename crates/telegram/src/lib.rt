@@ -1,4 +1,6 @@
 // Telegrams: what travels between controllers, read from any bytes and written into a lent buffer.
+#![tactic(auto)]
+
 pub mod batch;
 pub mod body;
 pub mod event;

@@ -15,7 +15,7 @@ use refusal::{Outcome, Refusal};
 pub const MEMBERS: usize = 16;
 
 // How many names, and each as a part of the bytes that hold it; the parts behind the count are empty.
-#[derive(Drop)]
+#[derive(Clone, Copy)]
 pub struct Names {
     pub count: usize,
     pub parts: [Part; 16],

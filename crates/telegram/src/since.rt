@@ -17,7 +17,7 @@ const KIND: u32 = 3;
 pub const EXCEPTIONS: u32 = 64;
 
 // The id of an event that is not wanted, by its place in the sender's list.
-#[derive(Drop)]
+#[derive(Clone, Copy)]
 pub struct Exception {
     pub place: Place,
     pub number: u32,
@@ -31,7 +31,7 @@ pub enum ExceptionRead {
 }
 
 // So many exceptions from a place on, each read by itself with `read_exception`.
-#[derive(Drop)]
+#[derive(Clone, Copy)]
 pub struct Since {
     pub head: Head,
     pub count: usize,

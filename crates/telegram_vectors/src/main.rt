@@ -1,5 +1,7 @@
 // Replays telegrams.txt of its working directory, telegrams whole and damaged with what document 01 reads them as, against the crate telegram;
 // vectors/telegrams says what its lines mean. Each telegram that is accepted is written again, too, and must come out as it came in.
+#![tactic(auto)]
+
 ghost use Rattle.std.specs.Prelude.{◌+◌, ◌<◌, ◌≤◌, length};
 
 use leb128::Written;

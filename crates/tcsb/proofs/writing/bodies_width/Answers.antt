@@ -1,0 +1,49 @@
+use native.Mathlib.Omega.{arith}
+use borrow.Author.Rules.{rules}
+use mathlib.Core.Logic.{⊎_elim}
+use Rattle.tcsb.proofs.Bodies.{count_none, count-more, count_skip, writable_in, slot_spelt_lem, slot_small, width_is, width_not, bodies-counted}
+use Rattle.tcsb.proofs.writing.bodies_width.Goals as goal
+
+pub loop-i-init : goal.loop-i-init
+loop-i-init c = (search rules, (omega arith, count_none))
+
+pub returns-in-Refused : goal.returns-in-Refused
+returns-in-Refused c =
+    let a = c.args in
+    let l = c.loop-i in
+    let p = a.words.now in
+    record {
+      long = l.invariant.0;
+      is = λ h. width_not
+          (slot_spelt_lem p _ a.count h.few (writable_in p a.t2 a.count l.i l.invariant.0 c.if-i-slots.true h))
+          c.slot_width.ensures c.in-Refused.is;
+    }
+
+pub overflow_add-sum : goal.overflow_add-sum
+overflow_add-sum c =
+    let a = c.args in
+    let l = c.loop-i in
+    let w = slot_small a.words.now _ a.count c.slot_width.ensures c.in-Is.is in
+    record { fits = omega (arith, l.invariant.1.0, l.invariant.1.1.small, w) }
+
+pub loop-i-preserved : goal.loop-i-preserved
+loop-i-preserved c =
+    let a = c.args in
+    let l = c.loop-i in
+    let p = a.words.now in (
+      l.invariant.0,
+      (
+        omega arith,
+        ⊎_elim
+            (λ w. rw w.6 (count-more l.invariant.1.1 w.0.taken (slot_small p _ a.count w.2.ensures w.4.given.1)
+            (λ h. width_is (slot_spelt_lem p _ a.count h.few (writable_in p a.t2 a.count l.i l.invariant.0 w.0.taken h)) w.2.ensures w.4.given.1)))
+            (λ w. rw w.1 (count_skip l.invariant.1.1 w.0.left))
+            c.if-i-slots.branch,
+      ),
+    )
+
+pub returns : goal.returns
+returns c =
+    let a = c.args in
+    let l = c.loop-i.invariant in
+    bodies-counted a.words.now a.t2 a.count l.0 l.1.1 (omega arith)

@@ -1,0 +1,50 @@
+use native.Mathlib.Omega.{arith}
+use borrow.Author.Rules.{rules}
+use mathlib.Core.Logic.{⊎_elim}
+use Rattle.tcsb.proofs.Bodies.{count_none, count-more, count_skip, writable_in, exception_told_lem, exception_small, width_is, width_not, ids-counted}
+use Rattle.tcsb.proofs.writing.exceptions_width.Goals as goal
+
+pub loop-i-init : goal.loop-i-init
+loop-i-init c = (search rules, (omega arith, count_none))
+
+pub returns-in-Refused : goal.returns-in-Refused
+returns-in-Refused c =
+    let a = c.args in
+    let l = c.loop-i in
+    let p = a.words.now in
+    record {
+      long = l.invariant.0;
+      is = λ h. width_not
+          (exception_told_lem p _ a.count h.few (writable_in p a.t2 a.count l.i l.invariant.0 c.if-i-slots.true h)
+          c.exception_of.ensures)
+          c.exception_width.ensures c.in-Refused.is;
+    }
+
+pub overflow_add-sum : goal.overflow_add-sum
+overflow_add-sum c =
+    let a = c.args in
+    let l = c.loop-i in
+    let w = exception_small a.count _ c.exception_width.ensures c.in-Is.is in
+    record { fits = omega (arith, l.invariant.1.0, l.invariant.1.1.small, w) }
+
+pub loop-i-preserved : goal.loop-i-preserved
+loop-i-preserved c =
+    let a = c.args in
+    let l = c.loop-i in
+    let p = a.words.now in (
+      l.invariant.0,
+      (
+        omega arith,
+        ⊎_elim
+            (λ w. rw w.7 (count-more l.invariant.1.1 w.0.taken (exception_small a.count _ w.3.ensures w.5.given.1)
+            (λ h. width_is (exception_told_lem p _ a.count h.few (writable_in p a.t2 a.count l.i l.invariant.0 w.0.taken h) w.2.ensures) w.3.ensures w.5.given.1)))
+            (λ w. rw w.1 (count_skip l.invariant.1.1 w.0.left))
+            c.if-i-slots.branch,
+      ),
+    )
+
+pub returns : goal.returns
+returns c =
+    let a = c.args in
+    let l = c.loop-i.invariant in
+    ids-counted a.words.now a.t2 a.count l.0 l.1.1 (omega arith)

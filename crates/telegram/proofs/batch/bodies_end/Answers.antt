@@ -1,0 +1,15 @@
+use Rattle.telegram.proofs.Walks.{walk_none, walk_more, walk_bad, walk_all}
+use Rattle.telegram.proofs.Told.{body-got, body-bad}
+use Rattle.telegram.proofs.batch.bodies_end.Goals as goal
+
+pub loop-i-init : goal.loop-i-init
+loop-i-init c = walk_none
+
+pub returns-in-Refused : goal.returns-in-Refused
+returns-in-Refused c = walk_bad c.loop-i.invariant c.loop-i-test.true (body-bad _ _ _ c.read_fields-b.ensures c.in-Refused.is)
+
+pub loop-i-preserved : goal.loop-i-preserved
+loop-i-preserved c = walk_more c.loop-i.invariant c.loop-i-test.true (body-got _ _ _ c.read_fields-b.ensures c.in-Done.is)
+
+pub returns : goal.returns
+returns c = walk_all c.loop-i.invariant c.loop-i-test.false
