@@ -12,21 +12,18 @@ use mathlib.Core.Path.{◌≡◌, refl, sym, ◌∙◌}
 use borrow.Author.Rules.{rules}
 use Rattle.clock.proofs.matrix_clock.same_rows.Goals as goal
 
--- the rows past sixteen
-clamped : (s : tie.Start invariant-loop decreases-loop) → same_rows s.args.a.members s.args.a.rows s.args.b.rows ≡ all (min s.args.a.members 16) (λ k. same_entries s.args.a.members (row_of s.args.a.rows k) (row_of s.args.b.rows k))
-clamped s =
-    let p : length s.args.a.rows ≡ 16 = search (length_mapped, rules) in
-    let q : length s.args.b.rows ≡ 16 = search (length_mapped, rules) in
-    same-rows_clamp s.args.a.members s.args.a.rows s.args.b.rows p q
-
 pub loop-i-init : goal.loop-i-init
 loop-i-init c = (refl, c.clamp-n.ensures, pass_none)
 
 pub returns-then-not-eq : goal.returns-then-not-eq
-returns-then-not-eq c = sym (clamped s ∙ rw (← c.loop-i.invariant.0, ← c.loop-i.invariant.1) (pass_fails c.loop-i.invariant.2 (omega arith) (rw (← c.row-other.ensures, ← c.row-row.ensures, ← c.eq.ensures) (not-true _ c.if-not-eq.true-raw))))
+returns-then-not-eq c =
+    let clamped = same-rows_clamp c.args.a.members c.args.a.rows c.args.b.rows (search (length_mapped, rules)) (search (length_mapped, rules)) in
+    sym (clamped ∙ rw (← c.loop-i.invariant.0, ← c.loop-i.invariant.1) (pass_fails c.loop-i.invariant.2 (omega arith) (rw (← c.row-other.ensures, ← c.row-row.ensures, ← c.eq.ensures) (not-true _ c.if-not-eq.true-raw))))
 
 pub loop-i-preserved : goal.loop-i-preserved
 loop-i-preserved c = (c.loop-i.invariant.0, c.loop-i.invariant.1, pass_more c.loop-i.invariant.2 (omega arith) (rw (← c.row-other.ensures, ← c.row-row.ensures, ← c.eq.ensures) (not-false _ c.if-not-eq.false-raw)))
 
 pub returns : goal.returns
-returns c = sym (clamped s ∙ rw (← c.loop-i.invariant.0, ← c.loop-i.invariant.1) (pass_all c.loop-i.invariant.2 c.loop-i-test.false))
+returns c =
+    let clamped = same-rows_clamp c.args.a.members c.args.a.rows c.args.b.rows (search (length_mapped, rules)) (search (length_mapped, rules)) in
+    sym (clamped ∙ rw (← c.loop-i.invariant.0, ← c.loop-i.invariant.1) (pass_all c.loop-i.invariant.2 c.loop-i-test.false))

@@ -3,7 +3,7 @@ use Prim.Native.Nat.{◌-◌}
 use Rattle.clock.proofs.version_vector.dependencies_listed.Given as goal
 
 abbrev pub invariant-loop-i : goal.invariant-loop-i
-invariant-loop-i l = Listing (record { members = l.n; l.origin = record { 0 = l.origin }; l.row = l.row }) l.n l.i l.r
+invariant-loop-i l = Listing (record { members = l.n; origin = record { 0 = l.origin }; row = l.row }) l.n l.i l.r
 
 abbrev pub decreases-loop-i : goal.decreases-loop-i
 decreases-loop-i l = l.n - l.i

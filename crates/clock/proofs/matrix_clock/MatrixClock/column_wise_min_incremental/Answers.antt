@@ -2,9 +2,6 @@ use mathlib.Core.Path.{sym, ◌∙◌}
 use Rattle.clock.proofs.Matrices.{fits_done}
 use Rattle.clock.proofs.matrix_clock.MatrixClock.column_wise_min_incremental.Goals as goal
 
-statement,
-}
-
 pub settled_cut-row-requires : goal.settled_cut-row-requires
 settled_cut-row-requires c = (fits_done _ _ _ _ (sym c.fit.ensures ∙ c.in-Done.is)).few
 

@@ -2,9 +2,6 @@ use mathlib.Core.Path.{sym, ◌∙◌}
 use Rattle.clock.proofs.Matrices.{update_fits}
 use Rattle.clock.proofs.matrix_clock.MatrixClock.set_by_idx_incremental.Goals as goal
 
-statement,
-}
-
 pub raised_columns-columns-requires : goal.raised_columns-columns-requires
 raised_columns-columns-requires c = (update_fits c.args.self c.args.idx.0 c.args.version (sym c.fit_update.ensures ∙ c.in-Done.is)).few
 
