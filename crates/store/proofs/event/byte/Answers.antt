@@ -1,5 +1,6 @@
 use Rattle.store.specs.Words.{byte_of}
 use Prim.Native.Nat.{ℕ, zero, suc, ◌/◌, ◌%◌}
+use native.Mathlib.Omega.{arith}
 use mathlib.Core.Path.{◌≡◌, refl}
 use Rattle.store.proofs.event.byte.Goals as goal
 
@@ -19,4 +20,4 @@ pub returns-in-2 : goal.returns-in-2
 returns-in-2 c = rw c.in-2.is
 
 pub returns-in_default : goal.returns-in_default
-returns-in_default c = byte_high _ _ c.in_default.rest.0.0.1 c.in_default.rest.0.1 c.in_default.rest.1
+returns-in_default c = byte_high _ _ (λ e. omega arith) (λ e. omega arith) (λ e. omega arith)

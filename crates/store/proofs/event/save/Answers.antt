@@ -12,4 +12,7 @@ pub put_run-requires-2 : goal.put_run-requires-2
 put_run-requires-2 c = let n : length c.args.e.version.entries ≡ 16 = search rules in omega arith
 
 pub returns : goal.returns
-returns c = let e = c.args.e in let fields = s.well-formed.1.1.0.1.1 in let fit : (i : ℕ) → Fits w8 (get_or e.operation i 0) = λ i. search (fields.1.1.1.1, rules) in saved _ _ _ _ _ e _ (search (fields.1.1.0.1, rules)) (search (fields.1.1.1.1, rules)) (λ i. (fit i).fits) c.words_of-held.ensures c.put_run.ensures c.put_run-2.ensures c.put_run-3.ensures
+returns c =
+    let e = c.args.e in
+    let fit : (i : ℕ) → Fits w8 (get_or e.operation i 0) = search rules in
+    saved _ _ _ _ _ e _ (search rules) (search rules) (λ i. (fit i).fits) c.words_of-held.ensures c.put_run.ensures c.put_run-2.ensures c.put_run-3.ensures
