@@ -12,7 +12,7 @@ loop-j-init c = passed_none
 pub returns-then-not-is_entry_ready : goal.returns-then-not-is_entry_ready
 returns-then-not-is_entry_ready c =
     let a = c.args in
-    λ h. ready_fails a.members a.t1.entries a.e c.loop-j.j c.if-j-members.true c.is_entry_ready.ensures (not-true c.is_entry_ready.result c.if-not-is_entry_ready.true-raw)
+    λ h. ready_fails a.members a.row.entries a.e c.loop-j.j c.if-j-members.true c.is_entry_ready.ensures (not-true c.is_entry_ready.result c.if-not-is_entry_ready.true-raw)
 
 pub loop-j-preserved : goal.loop-j-preserved
 loop-j-preserved c = passed_more c.loop-j.invariant (λ h. ⊎_elim (λ w. answered_yes w.3.ensures w.4.left) (λ w. absurd (omega arith)) c.if-j-members.branch)
@@ -20,4 +20,4 @@ loop-j-preserved c = passed_more c.loop-j.invariant (λ h. ⊎_elim (λ w. answe
 pub returns : goal.returns
 returns c =
     let a = c.args in
-    λ h. ready_all a.members a.t1.entries a.e c.loop-j.j c.loop-j.invariant (omega arith)
+    λ h. ready_all a.members a.row.entries a.e c.loop-j.j c.loop-j.invariant (omega arith)

@@ -13,7 +13,7 @@ loop-p-init c = passed_none
 pub returns-then-known-p : goal.returns-then-known-p
 returns-then-known-p c =
     let a = c.args in
-    λ h. continues-not a.t1 a.t2 c.loop-p.p c.if-row-count.false c.if-p-count.true c.if-known-p.true
+    λ h. continues-not a.known a.row c.loop-p.p c.if-row-count.false c.if-p-count.true c.if-known-p.true
 
 pub loop-p-preserved : goal.loop-p-preserved
 loop-p-preserved c = passed_more c.loop-p.invariant (λ h. ⊎_elim (λ w. eq-eqb _ _ w.3.left) (λ w. absurd (omega arith)) c.if-p-count.branch)
@@ -21,4 +21,4 @@ loop-p-preserved c = passed_more c.loop-p.invariant (λ h. ⊎_elim (λ w. eq-eq
 pub returns : goal.returns
 returns c =
     let a = c.args in
-    λ h. continues-all a.t1 a.t2 c.loop-p.p c.if-row-count.false c.loop-p.invariant (omega arith)
+    λ h. continues-all a.known a.row c.loop-p.p c.if-row-count.false c.loop-p.invariant (omega arith)

@@ -9,7 +9,7 @@ loop-p-init c = λ h. translate_none
 pub returns-then-members-place : goal.returns-then-members-place
 returns-then-members-place c =
     let a = c.args in
-    λ h few. rw (c.not_translated.ensures, translate_fails a.list.now a.names a.s.now a.t4 c.loop-p.p c.member_of-place.result c.if-p-count.true (c.member_of-place.ensures.1 h) c.if-members-place.true) refl
+    λ h few. rw (c.not_translated.ensures, translate_fails a.list.now a.names a.s.now a.listed c.loop-p.p c.member_of-place.result c.if-p-count.true (c.member_of-place.ensures.1 h) c.if-members-place.true) refl
 
 pub loop-p-preserved : goal.loop-p-preserved
 loop-p-preserved c =
@@ -19,4 +19,4 @@ loop-p-preserved c =
 pub returns : goal.returns
 returns c =
     let a = c.args in
-    λ h few. rw (translate_all a.list.now a.names a.s.now a.t4 c.loop-p.places c.loop-p.p (c.loop-p.invariant h) c.loop-p-test.false few) refl
+    λ h few. rw (translate_all a.list.now a.names a.s.now a.listed c.loop-p.places c.loop-p.p (c.loop-p.invariant h) c.loop-p-test.false few) refl

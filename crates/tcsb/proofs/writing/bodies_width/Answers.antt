@@ -15,7 +15,7 @@ returns-in-Refused c =
     record {
       long = l.invariant.0;
       is = λ h. width_not
-          (slot_spelt_lem p _ a.count h.few (writable_in p a.t2 a.count l.i l.invariant.0 c.if-i-slots.true h))
+          (slot_spelt_lem p _ a.count h.few (writable_in p a.slots a.count l.i l.invariant.0 c.if-i-slots.true h))
           c.slot_width.ensures c.in-Refused.is;
     }
 
@@ -36,7 +36,7 @@ loop-i-preserved c =
         omega arith,
         ⊎_elim
             (λ w. rw w.6 (count-more l.invariant.1.1 w.0.taken (slot_small p _ a.count w.2.ensures w.4.given.1)
-            (λ h. width_is (slot_spelt_lem p _ a.count h.few (writable_in p a.t2 a.count l.i l.invariant.0 w.0.taken h)) w.2.ensures w.4.given.1)))
+            (λ h. width_is (slot_spelt_lem p _ a.count h.few (writable_in p a.slots a.count l.i l.invariant.0 w.0.taken h)) w.2.ensures w.4.given.1)))
             (λ w. rw w.1 (count_skip l.invariant.1.1 w.0.left))
             c.if-i-slots.branch,
       ),
@@ -46,4 +46,4 @@ pub returns : goal.returns
 returns c =
     let a = c.args in
     let l = c.loop-i.invariant in
-    bodies-counted a.words.now a.t2 a.count l.0 l.1.1 (omega arith)
+    bodies-counted a.words.now a.slots a.count l.0 l.1.1 (omega arith)

@@ -15,7 +15,7 @@ returns-in-Refused c =
     record {
       long = l.invariant.0;
       is = λ h. width_not
-          (exception_told_lem p _ a.count h.few (writable_in p a.t2 a.count l.i l.invariant.0 c.if-i-slots.true h)
+          (exception_told_lem p _ a.count h.few (writable_in p a.slots a.count l.i l.invariant.0 c.if-i-slots.true h)
           c.exception_of.ensures)
           c.exception_width.ensures c.in-Refused.is;
     }
@@ -37,7 +37,7 @@ loop-i-preserved c =
         omega arith,
         ⊎_elim
             (λ w. rw w.7 (count-more l.invariant.1.1 w.0.taken (exception_small a.count _ w.3.ensures w.5.given.1)
-            (λ h. width_is (exception_told_lem p _ a.count h.few (writable_in p a.t2 a.count l.i l.invariant.0 w.0.taken h) w.2.ensures) w.3.ensures w.5.given.1)))
+            (λ h. width_is (exception_told_lem p _ a.count h.few (writable_in p a.slots a.count l.i l.invariant.0 w.0.taken h) w.2.ensures) w.3.ensures w.5.given.1)))
             (λ w. rw w.1 (count_skip l.invariant.1.1 w.0.left))
             c.if-i-slots.branch,
       ),
@@ -47,4 +47,4 @@ pub returns : goal.returns
 returns c =
     let a = c.args in
     let l = c.loop-i.invariant in
-    ids-counted a.words.now a.t2 a.count l.0 l.1.1 (omega arith)
+    ids-counted a.words.now a.slots a.count l.0 l.1.1 (omega arith)

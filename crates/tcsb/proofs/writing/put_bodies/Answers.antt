@@ -17,7 +17,7 @@ loop-i-preserved c =
         omega arith,
         ⊎_elim
             (λ w. rw (w.6, w.7) (placed-more l.invariant.1.1 w.0.taken w.4.given
-            (λ h. w.3.ensures.puts h.few (writable_in p a.t4 a.count l.i l.invariant.0 w.0.taken h))))
+            (λ h. w.3.ensures.puts h.few (writable_in p a.slots a.count l.i l.invariant.0 w.0.taken h))))
             (λ w. rw (w.1, w.2) (placed_skip l.invariant.1.1 w.0.left))
             c.if-i-slots.branch,
       ),
@@ -30,4 +30,4 @@ pub returns : goal.returns
 returns c =
     let a = c.args in
     let l = c.loop-i.invariant in
-    bodies-placed a.words.now a.t4 a.count l.0 l.1.1 (omega arith)
+    bodies-placed a.words.now a.slots a.count l.0 l.1.1 (omega arith)

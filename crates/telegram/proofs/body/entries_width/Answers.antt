@@ -20,5 +20,5 @@ loop-i-preserved c =
 pub returns : goal.returns
 returns c =
     let a = c.args in
-    let n : length a.t1 ≡ 16 = search rules in
-    rw (version_bytes_lem a.t1 a.count (omega arith)) (measure_all c.loop-i.invariant c.loop-i-test.false)
+    let n : length a.entries ≡ 16 = search rules in
+    rw (version_bytes_lem a.entries a.count (omega arith)) (measure_all c.loop-i.invariant c.loop-i-test.false)

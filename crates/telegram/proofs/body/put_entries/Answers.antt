@@ -9,8 +9,8 @@ use Rattle.telegram.proofs.body.put_entries.Goals as goal
 pub loop-i-init : goal.loop-i-init
 loop-i-init c =
     let a = c.args in
-    let n : length a.t3 ≡ 16 = search rules in
-    each_none (entry_bytes a.t3) a.count a.out.now a.at (rw (version_bytes_lem a.t3 a.count (omega arith)) at c.requires.1)
+    let n : length a.entries ≡ 16 = search rules in
+    each_none (entry_bytes a.entries) a.count a.out.now a.at (rw (version_bytes_lem a.entries a.count (omega arith)) at c.requires.1)
 
 pub put_number-next-requires : goal.put_number-next-requires
 put_number-next-requires c = each-room c.loop-i.invariant c.loop-i-test.true
@@ -24,5 +24,5 @@ shape_of-out c = c.loop-i.invariant.long
 pub returns : goal.returns
 returns c =
     let a = c.args in
-    let n : length a.t3 ≡ 16 = search rules in
-    rw (version_bytes_lem a.t3 a.count (omega arith)) (each_all c.loop-i.invariant c.loop-i-test.false)
+    let n : length a.entries ≡ 16 = search rules in
+    rw (version_bytes_lem a.entries a.count (omega arith)) (each_all c.loop-i.invariant c.loop-i-test.false)

@@ -17,13 +17,13 @@ returns-then-not-part_fits c =
 pub overflow_add-sum : goal.overflow_add-sum
 overflow_add-sum c =
     let a = c.args in
-    omega (arith, (fits_part 1 16 a.s.now (part_of a.t2 c.loop-i.i) (answered_yes c.part_fits.ensures c.if-not-part_fits.false-raw)).most)
+    omega (arith, (fits_part 1 16 a.s.now (part_of a.names c.loop-i.i) (answered_yes c.part_fits.ensures c.if-not-part_fits.false-raw)).most)
 
 pub overflow_add-sum-in-loop-i : goal.overflow_add-sum-in-loop-i
 overflow_add-sum-in-loop-i c =
     let a = c.args in
     let m = c.loop-i.invariant.1 in
-    omega (arith, (fits_part 1 16 a.s.now (part_of a.t2 c.loop-i.i) (answered_yes c.part_fits.ensures c.if-not-part_fits.false-raw)).most, m.small, m.few)
+    omega (arith, (fits_part 1 16 a.s.now (part_of a.names c.loop-i.i) (answered_yes c.part_fits.ensures c.if-not-part_fits.false-raw)).most, m.small, m.few)
 
 pub loop-i-preserved : goal.loop-i-preserved
 loop-i-preserved c =

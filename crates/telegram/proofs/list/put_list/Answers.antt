@@ -13,13 +13,13 @@ overflow_cast-count c = omega (arith, (fits_list _ _ c.requires.0).few)
 pub put_number-next-requires : goal.put_number-next-requires
 put_number-next-requires c =
     let a = c.args in
-    room-first a.out.now a.at (spell a.t4.count) (chain a.t4.count (name_bytes a.s.now a.t4)) (rw (list_bytes_lem a.s.now a.t4) at c.requires.1)
+    room-first a.out.now a.at (spell a.names.count) (chain a.names.count (name_bytes a.s.now a.names)) (rw (list_bytes_lem a.s.now a.names) at c.requires.1)
 
 pub loop-i-init : goal.loop-i-init
 loop-i-init c =
     let a = c.args in
-    each_none (name_bytes a.s.now a.t4) a.t4.count _ _
-    (room_second (chain a.t4.count (name_bytes a.s.now a.t4)) (rw (list_bytes_lem a.s.now a.t4) at c.requires.1) c.put_number-next.ensures)
+    each_none (name_bytes a.s.now a.names) a.names.count _ _
+    (room_second (chain a.names.count (name_bytes a.s.now a.names)) (rw (list_bytes_lem a.s.now a.names) at c.requires.1) c.put_number-next.ensures)
 
 pub offset_bounds-names-i : goal.offset_bounds-names-i
 offset_bounds-names-i c = let few = (fits_list _ _ c.requires.0).few in search rules
@@ -38,5 +38,5 @@ loop-i-preserved c = each_more c.loop-i.invariant c.loop-i-test.true c.put_sized
 pub returns : goal.returns
 returns c =
     let a = c.args in
-    let e = list_bytes_lem a.s.now a.t4 in
+    let e = list_bytes_lem a.s.now a.names in
     rw e (put_then (rw e at c.requires.1) c.put_number-next.ensures (each_all c.loop-i.invariant c.loop-i-test.false))

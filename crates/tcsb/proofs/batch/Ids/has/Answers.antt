@@ -13,12 +13,12 @@ returns-then-self-k c = (λ h. seek_all c.loop-k.invariant c.if-self-k.true, rec
 pub returns-then-self-k-3 : goal.returns-then-self-k-3
 returns-then-self-k-3 c =
     let a = c.args in
-    (λ h. seek_found a.t1 a.origin.0 a.number c.loop-k.k c.if-self-k.false c.if-self-k-2.true c.if-self-k-3.true, record { origins = search rules; numbers = search rules })
+    (λ h. seek_found a.self a.origin.0 a.number c.loop-k.k c.if-self-k.false c.if-self-k-2.true c.if-self-k-3.true, record { origins = search rules; numbers = search rules })
 
 pub loop-k-preserved : goal.loop-k-preserved
 loop-k-preserved c =
     let a = c.args in
-    seek_more c.loop-k.invariant (⊎_elim (λ w. other-number a.t1 a.origin.0 a.number _ w.2.left) (λ w. other-origin a.t1 a.origin.0 a.number _ w.left) c.if-self-k-2.branch)
+    seek_more c.loop-k.invariant (⊎_elim (λ w. other-number a.self a.origin.0 a.number _ w.2.left) (λ w. other-origin a.self a.origin.0 a.number _ w.left) c.if-self-k-2.branch)
 
 pub returns : goal.returns
 returns c = (λ h. seek_all c.loop-k.invariant (omega (arith, c.loop-k-test.false)), record { origins = search rules; numbers = search rules })
