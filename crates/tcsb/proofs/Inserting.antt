@@ -1,6 +1,6 @@
 -- Events put into sorted lists one by one: ids, lengths, and what is counted over a list and one more. Assumes nothing.
 use mathlib.Core.Path.{◌≡◌, refl, sym, ap, ◌∙◌}
-use mathlib.Core.Bool.{Bool, true, false, cond, ◌&&◌, ◌||◌, or-true, or_false, or_assoc, or_self_left}
+use mathlib.Core.Bool.{Bool, true, false, cond, ◌&&◌, ◌||◌, or-true, or-false, or_assoc, or_self_left}
 use mathlib.Core.List.Memᴰ
 use mathlib.Core.List.{List, [], ◌∷◌, ◌++◌, map}
 use Prim.Native.Nat.{ℕ, zero, suc, ◌+◌, ◌≤◌, ◌<◌}
@@ -154,7 +154,7 @@ one_more_lem es l e s h =
 
 pub has-append : (o n : ℕ) (es : List Event) (e : Event) → has_in o n (es ++ (e ∷ [])) ≡ (has_in o n es || id_is o n e)
 unfolding has_in
-has-append o n [] e = or_false (id_is o n e)
+has-append o n [] e = or-false (id_is o n e)
 has-append o n (x ∷ es) e = rw (has-append o n es e) (sym (or_assoc (id_is o n x) (has_in o n es) (id_is o n e)))
 
 -- ---- a list and one more
@@ -183,12 +183,12 @@ count-append st v (x ∷ es) e = go (same_verdict (verdict_of st x) v) (count-ap
 
 pub own-append : (st : State) (row : Translation) (l : List Body) (b : Body) → some_own st row (l ++ (b ∷ [])) ≡ (some_own st row l || eqb (our_place row b.place.0) (own st))
 unfolding some_own
-own-append st row [] b = or_false (eqb (our_place row b.place.0) (own st))
+own-append st row [] b = or-false (eqb (our_place row b.place.0) (own st))
 own-append st row (x ∷ l) b = rw (own-append st row l b) (sym (or_assoc (eqb (our_place row x.place.0) (own st)) (some_own st row l) (eqb (our_place row b.place.0) (own st))))
 
 pub misnumbered-append : (l : List Body) (b : Body) → some_misnumbered (l ++ (b ∷ [])) ≡ (some_misnumbered l || misnumbered b)
 unfolding some_misnumbered
-misnumbered-append [] b = or_false (misnumbered b)
+misnumbered-append [] b = or-false (misnumbered b)
 misnumbered-append (x ∷ l) b = rw (misnumbered-append l b) (sym (or_assoc (misnumbered x) (some_misnumbered l) (misnumbered b)))
 
 pub map-append : {A B : Type 0} (f : A → B) (l : List A) (x : A) → map f (l ++ (x ∷ [])) ≡ map f l ++ (f x ∷ [])

@@ -81,7 +81,8 @@ module _ {p : List ℕ} {order : Slots} {row : Row} {n : ℕ} where
       → first_ready st 0 (events p order) ≡ cond b (at_place i e) (first_ready st (i + 1) (drop (i + 1) (events p order)))
   unfolding first_ready is_ready
   look_next {i} M e b h k is ready st few m r =
-      M.so_far st few m r ∙ rw (events_left p order i h k, ← is, m, r, ← ready few) refl
+      let t : ready_by (members st) (own_row st) e ≡ b = rw (m, r) (sym (ready few)) in
+      M.so_far st few m r ∙ rw (events_left p order i h k, ← is, t) refl
 
   pub look_more : {i : ℕ} → Looking p order row n i → (e : Event) (b : Bool) → i < order.count → i < length order.at → e ≡ event_at p (get_or order.at i 0)
       → (n ≤ 16 → b ≡ ready_by n row.entries e) → b ≡ false → Looking p order row n (i + 1)

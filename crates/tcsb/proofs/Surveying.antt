@@ -1,6 +1,6 @@
 -- What the walk over a batch's bodies finds, body by body. Assumes nothing.
 use mathlib.Core.Path.{◌≡◌, refl, sym, ap, ◌∙◌}
-use mathlib.Core.Bool.{Bool, true, false, cond, ◌&&◌, ◌||◌, and-false, or_false}
+use mathlib.Core.Bool.{Bool, true, false, cond, ◌&&◌, ◌||◌, and-false, or-false}
 use mathlib.Core.List.{List, [], ◌∷◌, ◌++◌, map, append-nil}
 use mathlib.Core.Logic.{⊎_elim}
 use Prim.Native.Nat.{ℕ, zero, suc, ◌+◌, ◌≤◌, ◌<◌}
@@ -200,7 +200,7 @@ has_again o n es e h = go (id_is o n e) refl ∙ sym (has-append o n es e)
   where
     go : (b : Bool) → id_is o n e ≡ b → has_in o n es ≡ (has_in o n es || b)
     go true q = let r = is_id o n e q in let y : has_in o n es ≡ true = rw (← r.0, ← r.1) h in rw y refl
-    go false q = sym (or_false (has_in o n es))
+    go false q = sym (or-false (has_in o n es))
 
 -- ---- one body more: ids and lengths
 

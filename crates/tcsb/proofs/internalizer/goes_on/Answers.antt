@@ -1,8 +1,8 @@
-use mathlib.Core.Logic.{⊎_elim}
 use native.Mathlib.Omega.{arith}
 use borrow.Author.Tests.{eq-eqb}
 use Rattle.tcsb.proofs.Placing.{passed_none, passed_more, continues-short, continues-not, continues-all}
 use Rattle.tcsb.proofs.internalizer.goes_on.Goals as goal
+use Rattle.tcsb.proofs.internalizer.goes_on.Goals.{then-p-count+else-known-p, else-p-count}
 
 pub returns-then-row-count : goal.returns-then-row-count
 returns-then-row-count c = λ h. continues-short c.args.known c.args.row c.if-row-count.true
@@ -16,9 +16,13 @@ returns-then-known-p c =
     λ h. continues-not a.known a.row c.loop-p.p c.if-row-count.false c.if-p-count.true c.if-known-p.true
 
 pub loop-p-preserved : goal.loop-p-preserved
-loop-p-preserved c = passed_more c.loop-p.invariant (λ h. ⊎_elim (λ w. eq-eqb _ _ w.3.left) (λ w. absurd (omega arith)) c.if-p-count.branch)
+loop-p-preserved c =
+    passed_more c.loop-p.invariant (λ h. elim c.if-p-count.branch [
+      then-p-count+else-known-p w ↦ eq-eqb _ _ w.if-known-p.false
+    | else-p-count w ↦ absurd (omega arith) ])
 
 pub returns : goal.returns
 returns c =
     let a = c.args in
     λ h. continues-all a.known a.row c.loop-p.p c.if-row-count.false c.loop-p.invariant (omega arith)
+

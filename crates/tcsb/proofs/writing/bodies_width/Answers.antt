@@ -1,8 +1,8 @@
 use native.Mathlib.Omega.{arith}
 use borrow.Author.Rules.{rules}
-use mathlib.Core.Logic.{⊎_elim}
 use Rattle.tcsb.proofs.Bodies.{count_none, count-more, count_skip, writable_in, slot_spelt_lem, slot_small, width_is, width_not, bodies-counted}
 use Rattle.tcsb.proofs.writing.bodies_width.Goals as goal
+use Rattle.tcsb.proofs.writing.bodies_width.Goals.{then-i-slots+in-Is, else-i-slots}
 
 pub loop-i-init : goal.loop-i-init
 loop-i-init c = (search rules, (omega arith, count_none))
@@ -34,11 +34,10 @@ loop-i-preserved c =
       l.invariant.0,
       (
         omega arith,
-        ⊎_elim
-            (λ w. rw w.6 (count-more l.invariant.1.1 w.0.taken (slot_small p _ a.count w.2.ensures w.4.given.1)
-            (λ h. width_is (slot_spelt_lem p _ a.count h.few (writable_in p a.slots a.count l.i l.invariant.0 w.0.taken h)) w.2.ensures w.4.given.1)))
-            (λ w. rw w.1 (count_skip l.invariant.1.1 w.0.left))
-            c.if-i-slots.branch,
+        elim c.if-i-slots.branch [
+          then-i-slots+in-Is w ↦ rw w.sum-is (count-more l.invariant.1.1 w.if-i-slots.true (slot_small p _ a.count w.slot_width.ensures w.in-Is.is)
+            (λ h. width_is (slot_spelt_lem p _ a.count h.few (writable_in p a.slots a.count l.i l.invariant.0 w.if-i-slots.true h)) w.slot_width.ensures w.in-Is.is))
+        | else-i-slots w ↦ rw w.sum-is (count_skip l.invariant.1.1 w.if-i-slots.false) ],
       ),
     )
 
@@ -47,3 +46,4 @@ returns c =
     let a = c.args in
     let l = c.loop-i.invariant in
     bodies-counted a.words.now a.slots a.count l.0 l.1.1 (omega arith)
+

@@ -1,8 +1,8 @@
 use native.Mathlib.Omega.{arith}
 use borrow.Author.Rules.{rules}
-use mathlib.Core.Logic.{⊎_elim}
 use Rattle.tcsb.proofs.Bodies.{count_none, count-more, count_skip, writable_in, exception_told_lem, exception_small, width_is, width_not, ids-counted}
 use Rattle.tcsb.proofs.writing.exceptions_width.Goals as goal
+use Rattle.tcsb.proofs.writing.exceptions_width.Goals.{then-i-slots+in-Is, else-i-slots}
 
 pub loop-i-init : goal.loop-i-init
 loop-i-init c = (search rules, (omega arith, count_none))
@@ -35,11 +35,10 @@ loop-i-preserved c =
       l.invariant.0,
       (
         omega arith,
-        ⊎_elim
-            (λ w. rw w.7 (count-more l.invariant.1.1 w.0.taken (exception_small a.count _ w.3.ensures w.5.given.1)
-            (λ h. width_is (exception_told_lem p _ a.count h.few (writable_in p a.slots a.count l.i l.invariant.0 w.0.taken h) w.2.ensures) w.3.ensures w.5.given.1)))
-            (λ w. rw w.1 (count_skip l.invariant.1.1 w.0.left))
-            c.if-i-slots.branch,
+        elim c.if-i-slots.branch [
+          then-i-slots+in-Is w ↦ rw w.sum-is (count-more l.invariant.1.1 w.if-i-slots.true (exception_small a.count _ w.exception_width.ensures w.in-Is.is)
+            (λ h. width_is (exception_told_lem p _ a.count h.few (writable_in p a.slots a.count l.i l.invariant.0 w.if-i-slots.true h) w.exception_of.ensures) w.exception_width.ensures w.in-Is.is))
+        | else-i-slots w ↦ rw w.sum-is (count_skip l.invariant.1.1 w.if-i-slots.false) ],
       ),
     )
 
@@ -48,3 +47,4 @@ returns c =
     let a = c.args in
     let l = c.loop-i.invariant in
     ids-counted a.words.now a.slots a.count l.0 l.1.1 (omega arith)
+

@@ -1,8 +1,8 @@
 use native.Mathlib.Omega.{arith}
 use borrow.Author.Rules.{rules}
-use mathlib.Core.Logic.{⊎_elim}
 use Rattle.tcsb.proofs.Bodies.{placed-none, placed-more, placed_skip, writable_in, ids-placed}
 use Rattle.tcsb.proofs.writing.put_exceptions.Goals as goal
+use Rattle.tcsb.proofs.writing.put_exceptions.Goals.{then-i-slots, else-i-slots}
 
 pub loop-i-init : goal.loop-i-init
 loop-i-init c = (search rules, (omega arith, placed-none))
@@ -15,11 +15,10 @@ loop-i-preserved c =
       l.invariant.0,
       (
         omega arith,
-        ⊎_elim
-            (λ w. rw (w.6, w.7) (placed-more l.invariant.1.1 w.0.taken w.4.given
-            (λ h. w.3.ensures.puts h.few (writable_in p a.slots a.count l.i l.invariant.0 w.0.taken h))))
-            (λ w. rw (w.1, w.2) (placed_skip l.invariant.1.1 w.0.left))
-            c.if-i-slots.branch,
+        elim c.if-i-slots.branch [
+          then-i-slots w ↦ rw (w.out-is, w.next-is) (placed-more l.invariant.1.1 w.if-i-slots.true (search rules)
+            (λ h. w.put_exception-next.ensures.puts h.few (writable_in p a.slots a.count l.i l.invariant.0 w.if-i-slots.true h)))
+        | else-i-slots w ↦ rw (w.out-is, w.next-is) (placed_skip l.invariant.1.1 w.if-i-slots.false) ],
       ),
     )
 
@@ -31,3 +30,4 @@ returns c =
     let a = c.args in
     let l = c.loop-i.invariant in
     ids-placed a.words.now a.slots a.count l.0 l.1.1 (omega arith)
+

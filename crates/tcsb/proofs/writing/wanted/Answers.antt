@@ -1,9 +1,9 @@
 use native.Mathlib.Omega.{arith}
 use borrow.Author.Rules.{rules}
-use mathlib.Core.Logic.{⊎_elim}
 use Rattle.tcsb.specs.Writing.{wanted_by}
 use Rattle.tcsb.proofs.Wanting.{want_none, want_more, want_not, want_skip, want_all, test_told}
 use Rattle.tcsb.proofs.writing.wanted.Goals as goal
+use Rattle.tcsb.proofs.writing.wanted.Goals.{then-i-order+then-is_wanted, then-i-order+else-is_wanted, else-i-order}
 
 pub loop-i-init : goal.loop-i-init
 loop-i-init c = (search rules, (omega arith, want_none c.no_slots-slots.result c.no_slots-slots.ensures))
@@ -16,12 +16,10 @@ loop-i-preserved c =
       l.0,
       (
         omega arith,
-        ⊎_elim
-            (λ w. rw w.6 (want_more l.1.1 c.loop-i-test.true w.0.taken l.0 w.5.ensures (λ h. test_told t w.2.ensures (w.3.ensures h.0) w.4.taken)))
-            (⊎_elim
-            (λ w. rw w.5 (want_not l.1.1 c.loop-i-test.true w.0.taken l.0 (λ h. test_told t w.2.ensures (w.3.ensures h.0) w.4.left)))
-            (λ w. rw w.1 (want_skip l.1.1 w.0.left)))
-            c.if-i-order.branch,
+        elim c.if-i-order.branch [
+          then-i-order+then-is_wanted w ↦ rw w.slots-is (want_more l.1.1 c.loop-i-test.true w.if-i-order.true l.0 w.push-slots.ensures (λ h. test_told t w.load.ensures (w.is_wanted.ensures h.0) w.if-is_wanted.true))
+        | then-i-order+else-is_wanted w ↦ rw w.slots-is (want_not l.1.1 c.loop-i-test.true w.if-i-order.true l.0 (λ h. test_told t w.load.ensures (w.is_wanted.ensures h.0) w.if-is_wanted.false))
+        | else-i-order w ↦ rw w.slots-is (want_skip l.1.1 w.if-i-order.false) ],
       ),
     )
 
@@ -29,3 +27,4 @@ pub returns : goal.returns
 returns c =
     let l = c.loop-i.invariant in
     record { few = omega (arith, l.1.1.few, l.1.0); wants = λ few room. want_all l.1.1 (few, room) (omega arith) }
+

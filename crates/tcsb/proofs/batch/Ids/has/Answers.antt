@@ -1,8 +1,8 @@
 use native.Mathlib.Omega.{arith}
 use Rattle.tcsb.proofs.Surveying.{seek_none, seek_more, seek_all, seek_found, other-origin, other-number}
-use mathlib.Core.Logic.{⊎_elim}
 use borrow.Author.Rules.{rules}
 use Rattle.tcsb.proofs.batch.Ids.has.Goals as goal
+use Rattle.tcsb.proofs.batch.Ids.has.Goals.{then-self-k-2+else-self-k-3, else-self-k-2}
 
 pub loop-k-init : goal.loop-k-init
 loop-k-init c = seek_none
@@ -18,7 +18,10 @@ returns-then-self-k-3 c =
 pub loop-k-preserved : goal.loop-k-preserved
 loop-k-preserved c =
     let a = c.args in
-    seek_more c.loop-k.invariant (⊎_elim (λ w. other-number a.self a.origin.0 a.number _ w.2.left) (λ w. other-origin a.self a.origin.0 a.number _ w.left) c.if-self-k-2.branch)
+    seek_more c.loop-k.invariant (elim c.if-self-k-2.branch [
+      then-self-k-2+else-self-k-3 w ↦ other-number a.self a.origin.0 a.number _ w.if-self-k-3.false
+    | else-self-k-2 w ↦ other-origin a.self a.origin.0 a.number _ w.if-self-k-2.false ])
 
 pub returns : goal.returns
 returns c = (λ h. seek_all c.loop-k.invariant (omega (arith, c.loop-k-test.false)), record { origins = search rules; numbers = search rules })
+

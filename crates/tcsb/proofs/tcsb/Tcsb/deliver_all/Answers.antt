@@ -1,6 +1,6 @@
-use mathlib.Core.Logic.{⊎_elim}
 use Rattle.tcsb.proofs.Flushes.{flush_none, flush_skip, flush_more_lem, flush_ready, flush_all}
 use Rattle.tcsb.proofs.tcsb.Tcsb.deliver_all.Goals as goal
+use Rattle.tcsb.proofs.tcsb.Tcsb.deliver_all.Goals.{then-position-lt-SLOTS, else-position-lt-SLOTS}
 
 pub loop-k-init : goal.loop-k-init
 loop-k-init c = flush_none _ _ c.no_slots-slots.ensures
@@ -11,10 +11,10 @@ returns-in-None c =
 
 pub loop-k-preserved : goal.loop-k-preserved
 loop-k-preserved c =
-    ⊎_elim
-    (λ w. rw (w.5, w.6) (flush_more_lem c.loop-k.invariant c.loop-k-test.true c.row-row.ensures c.first_ready.ensures c.in-At.is w.2.ensures w.3.ensures))
-    (λ w. rw (w.1, w.2) (flush_skip c.loop-k.invariant c.loop-k-test.true c.row-row.ensures c.first_ready.ensures c.in-At.is w.0.left))
-    c.if-position-lt-SLOTS.branch
+    elim c.if-position-lt-SLOTS.branch [
+      then-position-lt-SLOTS w ↦ rw (w.tcsb-is, w.slots-is) (flush_more_lem c.loop-k.invariant c.loop-k-test.true c.row-row.ensures c.first_ready.ensures c.in-At.is w.push-slots.ensures w.deliver_at-d.ensures)
+    | else-position-lt-SLOTS w ↦ rw (w.tcsb-is, w.slots-is) (flush_skip c.loop-k.invariant c.loop-k-test.true c.row-row.ensures c.first_ready.ensures c.in-At.is w.if-position-lt-SLOTS.false) ]
 
 pub returns : goal.returns
 returns c = flush_all c.loop-k.invariant c.loop-k-test.false
+
