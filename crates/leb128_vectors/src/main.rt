@@ -4,8 +4,8 @@
 ghost use Rattle.std.specs.Prelude.{◌<◌, ◌≤◌, length};
 
 use leb128::{NumberRead, Written};
-use libc::STDOUT_FILENO;
 use refusal::Refusal;
+use std::{fs, io};
 
 // A number in decimal digits, and the place behind them.
 #[derive(Drop)]
@@ -224,40 +224,38 @@ fn are_cut(count: usize, whole: &[u8]) -> bool
 }
 
 // Hands a check's outcome on; where it failed, prints the line's number and what disagrees.
-fn told(ok: bool, line: u64, what: &[u8]) -> bool {
+fn told(rt: &HostRuntime, ok: bool, line: u64, what: &str) -> io::Result<bool> {
     if !ok {
-        io::write_all(STDOUT_FILENO, b"line ");
-        io::print_decimal(STDOUT_FILENO, line);
-        io::write_all(STDOUT_FILENO, what);
+        println!(rt; "line {line}: {what}")?;
     }
-    ok
+    Ok(ok)
 }
 
 // Whether a number and its bytes agree with the crate in every way.
-fn holds(value: u32, bytes: [u8; 8], count: usize, line: u64) -> bool
+fn holds(rt: &HostRuntime, value: u32, bytes: [u8; 8], count: usize, line: u64) -> io::Result<bool>
     requires { count ≤ 8 }
 {
     let whole = filled(bytes, count);
-    let writes = told(is_written(value, count, &whole), line, b": write\n");
-    let counts = told(leb128::width(value) == count, line, b": width\n");
-    let reads = told(is_read(value, count, &whole), line, b": read\n");
-    let cuts = told(are_cut(count, &whole), line, b": read of a prefix\n");
-    writes && counts && reads && cuts
+    let writes = told(rt, is_written(value, count, &whole), line, "write")?;
+    let counts = told(rt, leb128::width(value) == count, line, "width")?;
+    let reads = told(rt, is_read(value, count, &whole), line, "read")?;
+    let cuts = told(rt, are_cut(count, &whole), line, "read of a prefix")?;
+    Ok(writes && counts && reads && cuts)
 }
 
 // Whether a line agrees.
-fn agrees(t: &[u8], line: u64) -> bool {
+fn agrees(rt: &HostRuntime, t: &[u8], line: u64) -> io::Result<bool> {
     let r = row_of(t);
     let bytes = r.bytes;
     let count = r.count;
     let value = r.value;
-    if !told(r.good, line, b": no number and bytes\n") {
-        return false;
+    if !told(rt, r.good, line, "no number and bytes")? {
+        return Ok(false);
     }
     if 8 < count {
-        return false;
+        return Ok(false);
     }
-    holds(value, bytes, count, line)
+    holds(rt, value, bytes, count, line)
 }
 
 // The place behind the line feed that ends a line, or the end.
@@ -277,7 +275,7 @@ fn line_end(s: &[u8], at: usize) -> usize
 }
 
 // How many lines agree, but for those that begin with '#'.
-fn replay(s: &[u8]) -> u64 {
+fn replay(rt: &HostRuntime, s: &[u8]) -> io::Result<u64> {
     let mut agreed: u64 = 0;
     let mut line: u64 = 0;
     let mut at = 0;
@@ -285,25 +283,17 @@ fn replay(s: &[u8]) -> u64 {
         line += 1;
         let end = line_end(s, at);
         if s[at] != b'#' {
-            if agrees(&s[at..end], line) {
+            if agrees(rt, &s[at..end], line)? {
                 agreed += 1;
             }
         }
         at = end;
     }
-    agreed
+    Ok(agreed)
 }
 
-fn main() {
-    let path = b"uleb128.txt";
-    let fd = os::open_read(path);
-    if fd < 0 {
-        os::fail(path);
-        return;
-    }
-    let mut buffer = io::buffer();
-    let n = io::read_full(fd, &mut buffer);
-    libc::close(fd);
-    io::print_decimal(STDOUT_FILENO, replay(&buffer[..n]));
-    io::write_all(STDOUT_FILENO, b" numbers agree\n");
+fn main(rt: HostRuntime) -> io::Result<()> {
+    let text = fs::read(&rt, "uleb128.txt")?;
+    let agreed = replay(&rt, &text)?;
+    println!(rt; "{agreed} numbers agree")
 }

@@ -2,11 +2,13 @@
 // vectors/telegrams says what its lines mean. Each telegram that is accepted is written again, too, and must come out as it came in.
 #![tactic(auto)]
 
-ghost use Rattle.std.specs.Prelude.{◌+◌, ◌<◌, ◌≤◌, length};
+ghost use Rattle.std.specs.Prelude.{◌+◌, ◌<◌, ◌≤◌, length, IfOk};
 
 use leb128::Written;
-use libc::STDOUT_FILENO;
 use refusal::Outcome;
+use std::fs::File;
+use std::io;
+use std::io::Read;
 use telegram::batch::{read_batch, write_batch_head};
 use telegram::body::{Body, read_body, write_body};
 use telegram::event::{read_event, write_event};
@@ -25,7 +27,7 @@ struct Decimal {
 }
 
 // How far the values of a line have been met, and whether all of them were.
-#[derive(Drop)]
+#[derive(Clone, Copy)]
 struct Met {
     at: usize,
     all: bool,
@@ -436,13 +438,12 @@ fn line_end(s: &[u8], at: usize) -> usize
 }
 
 // Hands a check's outcome on; where it failed, prints the line's number.
-fn told(ok: bool, line: u64) -> bool {
+fn told(rt: &HostRuntime, ok: bool, line: u64) -> io::Result<bool>
+{
     if !ok {
-        io::write_all(STDOUT_FILENO, b"disagrees: line ");
-        io::print_decimal(STDOUT_FILENO, line);
-        io::write_all(STDOUT_FILENO, b"\n");
+        println!(rt; "disagrees: line {line}")?;
     }
-    ok
+    Ok(ok)
 }
 
 // Whether a line that says what is read agrees.
@@ -460,7 +461,7 @@ fn line_agrees(t: &[u8], call: u8, telegram: &mut [u8], out: &mut [u8]) -> bool 
 
 // How far the file has been replayed: how many lines agree of those that say what is read, how many lines there were, the call by its
 // first letter, and how long the telegram is.
-#[derive(Drop)]
+#[derive(Clone, Copy)]
 struct Run {
     agreed: u64,
     lines: u64,
@@ -469,14 +470,20 @@ struct Run {
 }
 
 // Replays a line.
-fn line(t: &[u8], run: Run, telegram: &mut [u8], out: &mut [u8]) -> Run
+fn line(
+    rt: &HostRuntime,
+    t: &[u8],
+    run: Run,
+    telegram: &mut [u8],
+    out: &mut [u8],
+) -> io::Result<Run>
     requires { (run.agreed ≤ run.lines) × (run.lines < 1000000000) }
-    ensures { (result.agreed ≤ result.lines) × (result.lines ≤ run.lines + 1) }
+    ensures { IfOk result (λ r. (r.agreed ≤ r.lines) × (r.lines ≤ run.lines + 1)) }
 {
     let mut r = run;
     r.lines = run.lines + 1;
     if t.len() == 0 {
-        return r;
+        return Ok(r);
     }
     let first = t[0];
     match first {
@@ -488,31 +495,35 @@ fn line(t: &[u8], run: Run, telegram: &mut [u8], out: &mut [u8]) -> Run
         _ => {
             let len = run.len;
             if len <= telegram.len() {
-                if told(
-                    line_agrees(t, run.call, &mut telegram[0..len], out),
-                    r.lines,
-                ) {
+                let agreed = line_agrees(t, run.call, &mut telegram[0..len], out);
+                if told(rt, agreed, r.lines)? {
                     r.agreed = run.agreed + 1;
                 }
             }
         }
     }
-    r
+    Ok(r)
 }
 
 // Replays lines.
-fn replay(s: &[u8], run: Run, telegram: &mut [u8], out: &mut [u8]) -> Run
+fn replay(
+    rt: &HostRuntime,
+    s: &[u8],
+    run: Run,
+    telegram: &mut [u8],
+    out: &mut [u8],
+) -> io::Result<Run>
     requires { (run.agreed ≤ run.lines) × (run.lines + length s.now < 1000000000) }
-    ensures { (result.agreed ≤ result.lines) × (result.lines ≤ run.lines + length s.now) }
+    ensures { IfOk result (λ r. (r.agreed ≤ r.lines) × (r.lines ≤ run.lines + length s.now)) }
 {
     let mut r = run;
     let mut at = 0;
     while at < s.len() {
         let end = line_end(s, at);
-        r = line(&s[at..end], r, telegram, out);
+        r = line(rt, &s[at..end], r, telegram, out)?;
         at = end;
     }
-    r
+    Ok(r)
 }
 
 // The place behind the last line feed, 0 where there is none.
@@ -540,8 +551,32 @@ fn to_front(s: &mut [u8], from: usize, end: usize)
     }
 }
 
+// Reads until a buffer is full or the file ends, and answers how many bytes were read.
+fn read_full(file: &mut File, buffer: &mut [u8]) -> io::Result<usize>
+    ensures { IfOk result (λ n. n ≤ length buffer.new) }
+{
+    let mut n: usize = 0;
+    for _ in 0..65536 {
+        if buffer.len() <= n {
+            break;
+        }
+        let more = file.read(&mut buffer[n..])?;
+        if more == 0 {
+            break;
+        }
+        n += more;
+    }
+    Ok(n)
+}
+
 // Replays a file by a buffer of at most 65,536 bytes, which every line fits into, and answers how many lines agree.
-fn replay_file(fd: i32, buffer: &mut [u8], telegram: &mut [u8], out: &mut [u8]) -> u64 {
+fn replay_file(
+    rt: &HostRuntime,
+    file: &mut File,
+    buffer: &mut [u8],
+    telegram: &mut [u8],
+    out: &mut [u8],
+) -> io::Result<u64> {
     let size = buffer.len();
     let mut run = Run {
         agreed: 0,
@@ -550,15 +585,15 @@ fn replay_file(fd: i32, buffer: &mut [u8], telegram: &mut [u8], out: &mut [u8]) 
         len: 0,
     };
     if 65536 < size {
-        return run.agreed;
+        return Ok(run.agreed);
     }
     let mut have: usize = 0;
     let mut turn: u64 = 0;
     while turn < 1000 {
-        let n = io::read_full(fd, &mut buffer[have..size]);
+        let n = read_full(file, &mut buffer[have..size])?;
         let held = have + n;
         let end = last_end(&buffer[0..held]);
-        run = replay(&buffer[0..end], run, telegram, out);
+        run = replay(rt, &buffer[0..end], run, telegram, out)?;
         to_front(buffer, end, held);
         have = held - end;
         turn += 1;
@@ -566,21 +601,14 @@ fn replay_file(fd: i32, buffer: &mut [u8], telegram: &mut [u8], out: &mut [u8]) 
             turn = 1000;
         }
     }
-    run.agreed
+    Ok(run.agreed)
 }
 
-fn main() {
-    let path = b"telegrams.txt";
-    let fd = os::open_read(path);
-    if fd < 0 {
-        os::fail(path);
-        return;
-    }
-    let mut buffer = io::large_buffer();
-    let mut telegram = io::large_buffer();
-    let mut out = io::large_buffer();
-    let agreed = replay_file(fd, &mut buffer, &mut telegram, &mut out);
-    libc::close(fd);
-    io::print_decimal(STDOUT_FILENO, agreed);
-    io::write_all(STDOUT_FILENO, b" readings agree\n");
+fn main(rt: HostRuntime) -> io::Result<()> {
+    let mut file = File::open(&rt, "telegrams.txt")?;
+    let mut buffer = vec![in rt.alloc(); 0u8; 65536]?;
+    let mut telegram = vec![in rt.alloc(); 0u8; 65536]?;
+    let mut out = vec![in rt.alloc(); 0u8; 65536]?;
+    let agreed = replay_file(&rt, &mut file, &mut buffer, &mut telegram, &mut out)?;
+    println!(rt; "{agreed} readings agree")
 }
