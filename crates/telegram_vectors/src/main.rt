@@ -438,8 +438,7 @@ fn line_end(s: &[u8], at: usize) -> usize
 }
 
 // Hands a check's outcome on; where it failed, prints the line's number.
-fn told(rt: &HostRuntime, ok: bool, line: u64) -> io::Result<bool>
-{
+fn told(rt: &HostRuntime, ok: bool, line: u64) -> io::Result<bool> {
     if !ok {
         println!(rt; "disagrees: line {line}")?;
     }
