@@ -25,9 +25,7 @@ use Rattle.telegram.specs.Writing.{list_spelt, body_spelt, event_spelt, Wrote}
 use Rattle.telegram.specs.declared.body.Body.{Body}
 use Rattle.telegram.proofs.Parts.{part_fits_lem}
 use Rattle.store.specs.declared.event.Event.{Event}
-use Rattle.store.specs.declared.order.Found.TheVariants as found
 use Rattle.store.specs.Orders.{find_from, insert_sorted, events, in_range}
-use Rattle.store.specs.Orders as orders
 use Rattle.tcsb.specs.Replica.{State, Call, done, not_done, members, own, own_row, written_body, raised_row, sent_event, send_of}
 use Rattle.tcsb.specs.Tcsb.{view, Sound, Good, Writes}
 use Rattle.tcsb.specs.Receive.{new_to, room_of, Stored}

@@ -10,7 +10,7 @@ use borrow.Author.Tests.{le-ltb, lt-leb, le-leb, eq-eqb, leb-true}
 use Rattle.refusal.specs.declared.Outcome.{Outcome}
 use Rattle.refusal.specs.declared.Outcome.TheVariants.{Done, Refused}
 use Rattle.refusal.specs.Refusal.{unless}
-use Rattle.lists.specs.Lists.{at, all}
+use Rattle.lists.specs.Lists.{all}
 use Rattle.lists.proofs.Laws.{all-at, all-each, and_both}
 use Rattle.clock.specs.Version.{fits_of}
 use Rattle.clock.specs.Matrix.{cell, diagonal, dominate, fits_matrix, valid_of}

@@ -19,7 +19,7 @@ use Rattle.store.specs.declared.event.Event.{Event}
 use Rattle.store.specs.declared.order.Slots.{Slots}
 use Rattle.store.specs.Words.{event_at}
 use Rattle.store.specs.Orders.{In, events, keep}
-use Rattle.tcsb.specs.Replica.{admitted, written_body, batch_written, exception_of, is_excepted, wanted_unless, flushed, frontier_call, members}
+use Rattle.tcsb.specs.Replica.{admitted, written_body, batch_written, exception_of, is_excepted, wanted_unless, flushed, frontier_call}
 use Rattle.tcsb.specs.Tcsb.{view, Good}
 use Rattle.tcsb.specs.Survey.{has_id}
 use Rattle.tcsb.specs.declared.internalizer.Translation.{Translation}

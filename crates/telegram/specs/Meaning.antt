@@ -1,5 +1,5 @@
 -- What a telegram says, wherever its fields stand, and its bytes. Assumes nothing.
-use Rattle.std.specs.Prelude.{ℕ, ◌+◌, ◌≤◌, ◌<◌, ◌≡◌, true, length, take, get_or}
+use Rattle.std.specs.Prelude.{ℕ, ◌≤◌, ◌<◌, ◌≡◌, true, length, take, get_or}
 use mathlib.Core.List.{List, [], ◌++◌, map, Memᴰ}
 use Rattle.lists.specs.Lists.{at, chain, joined}
 use Rattle.leb128.specs.Leb128.{spell, last_number}

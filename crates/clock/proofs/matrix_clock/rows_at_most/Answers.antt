@@ -1,5 +1,4 @@
 use borrow.Author.Tests.{not-true, not-false}
-use Rattle.clock.specs.Entries.{at_most}
 use Rattle.lists.proofs.Turns.{pass_none, pass_more, pass_fails, pass_all}
 use native.Mathlib.Omega.{arith}
 use mathlib.Core.Path.{refl, sym}

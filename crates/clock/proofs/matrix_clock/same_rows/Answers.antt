@@ -1,14 +1,9 @@
-use Prim.Native.Nat.{min}
 use borrow.Author.Tests.{not-true, not-false}
-use lib.ListN.{length}
-use Rattle.lists.specs.Lists.{all}
-use Rattle.clock.specs.Entries.{same_entries}
-use Rattle.clock.specs.Matrix.{row_of, same_rows}
 use Rattle.lists.proofs.Laws.{length_mapped}
 use Rattle.lists.proofs.Turns.{pass_none, pass_more, pass_fails, pass_all}
 use Rattle.clock.proofs.Matrices.{same-rows_clamp}
 use native.Mathlib.Omega.{arith}
-use mathlib.Core.Path.{◌≡◌, refl, sym, ◌∙◌}
+use mathlib.Core.Path.{refl, sym, ◌∙◌}
 use borrow.Author.Rules.{rules}
 use Rattle.clock.proofs.matrix_clock.same_rows.Goals as goal
 

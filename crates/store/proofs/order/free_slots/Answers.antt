@@ -13,8 +13,9 @@ loop-k-preserved c =
     let n = c.args.count in
     let l = c.loop-k in
     elim c.if-k-count.branch [
-      then-k-count w ↦ rw w.at-is (free_more n l.k l.at l.invariant c.loop-k-test.true w.if-k-count.true)
-    | else-k-count w ↦ rw w.at-is (free_skip n l.k l.at l.invariant c.loop-k-test.true w.if-k-count.false) ]
+      | then-k-count w ↦ rw w.at-is (free_more n l.k l.at l.invariant c.loop-k-test.true w.if-k-count.true)
+      | else-k-count w ↦ rw w.at-is (free_skip n l.k l.at l.invariant c.loop-k-test.true w.if-k-count.false)
+    ]
 
 pub returns-then-count-lt-SLOTS : goal.returns-then-count-lt-SLOTS
 returns-then-count-lt-SLOTS c = let n = c.args.count in

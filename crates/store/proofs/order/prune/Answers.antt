@@ -22,8 +22,9 @@ loop-i-preserved c =
     let m : length c.args.free.at ≡ 256 = search rules in
     let P = c.loop-i.invariant.1 in
     elim c.if-is_above.branch [
-      then-is_above w ↦ rw (w.at-is, w.kept-is, w.freed-is, w.ends-is) (omega arith, prune_keeps P (omega arith) (sym c.is_above.ensures ∙ w.if-is_above.true))
-    | else-is_above w ↦ rw (w.at-is, w.kept-is, w.freed-is, w.ends-is) (omega arith, prune_frees P (omega arith) (omega (arith, P.all)) (sym c.is_above.ensures ∙ w.if-is_above.false)) ]
+      | then-is_above w ↦ rw (w.at-is, w.kept-is, w.freed-is, w.ends-is) (omega arith, prune_keeps P (omega arith) (sym c.is_above.ensures ∙ w.if-is_above.true))
+      | else-is_above w ↦ rw (w.at-is, w.kept-is, w.freed-is, w.ends-is) (omega arith, prune_frees P (omega arith) (omega (arith, P.all)) (sym c.is_above.ensures ∙ w.if-is_above.false))
+    ]
 
 pub returns : goal.returns
 returns c =

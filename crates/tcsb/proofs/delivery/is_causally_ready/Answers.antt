@@ -17,11 +17,11 @@ returns-then-not-is_entry_ready c =
 pub loop-j-preserved : goal.loop-j-preserved
 loop-j-preserved c =
     passed_more c.loop-j.invariant (λ h. elim c.if-j-members.branch [
-      then-j-members+else-not-is_entry_ready w ↦ answered_yes w.is_entry_ready.ensures w.if-not-is_entry_ready.false-raw
-    | else-j-members w ↦ absurd (omega arith) ])
+      | then-j-members+else-not-is_entry_ready w ↦ answered_yes w.is_entry_ready.ensures w.if-not-is_entry_ready.false-raw
+      | else-j-members w ↦ absurd (omega arith)
+    ])
 
 pub returns : goal.returns
 returns c =
     let a = c.args in
     λ h. ready_all a.members a.row.entries a.e c.loop-j.j c.loop-j.invariant (omega arith)
-

@@ -18,11 +18,11 @@ returns-then-known-p c =
 pub loop-p-preserved : goal.loop-p-preserved
 loop-p-preserved c =
     passed_more c.loop-p.invariant (λ h. elim c.if-p-count.branch [
-      then-p-count+else-known-p w ↦ eq-eqb _ _ w.if-known-p.false
-    | else-p-count w ↦ absurd (omega arith) ])
+      | then-p-count+else-known-p w ↦ eq-eqb _ _ w.if-known-p.false
+      | else-p-count w ↦ absurd (omega arith)
+    ])
 
 pub returns : goal.returns
 returns c =
     let a = c.args in
     λ h. continues-all a.known a.row c.loop-p.p c.if-row-count.false c.loop-p.invariant (omega arith)
-

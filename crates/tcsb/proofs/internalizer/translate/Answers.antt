@@ -15,11 +15,11 @@ pub loop-p-preserved : goal.loop-p-preserved
 loop-p-preserved c =
     let l = c.loop-p.invariant in
     λ h. elim c.if-p-count.branch [
-      then-p-count+else-members-place w ↦ rw w.places-is (translate_more (l h) c.loop-p-test.true w.if-p-count.true (w.member_of-place.ensures.1 h) w.if-members-place.false)
-    | else-p-count w ↦ rw w.places-is (translate_skip (l h) c.loop-p-test.true w.if-p-count.false) ]
+      | then-p-count+else-members-place w ↦ rw w.places-is (translate_more (l h) c.loop-p-test.true w.if-p-count.true (w.member_of-place.ensures.1 h) w.if-members-place.false)
+      | else-p-count w ↦ rw w.places-is (translate_skip (l h) c.loop-p-test.true w.if-p-count.false)
+    ]
 
 pub returns : goal.returns
 returns c =
     let a = c.args in
     λ h few. rw (translate_all a.list.now a.names a.s.now a.listed c.loop-p.places c.loop-p.p (c.loop-p.invariant h) c.loop-p-test.false few) refl
-

@@ -16,5 +16,6 @@ returns c =
     let b = c.args.body in
     let e : length b.entries ≡ 16 = search rules in
     misnumbered_by b c.if-place-lt-MEMBERS.entry c.if-number-eq0.false (elim c.if-place-lt-MEMBERS.branch [
-      then-place-lt-MEMBERS w ↦ w.entry-is
-    | else-place-lt-MEMBERS w ↦ w.entry-is ∙ sym (past_end b.entries 16 b.place.0 e (omega (arith, w.if-place-lt-MEMBERS.false))) ])
+      | then-place-lt-MEMBERS w ↦ w.entry-is
+      | else-place-lt-MEMBERS w ↦ w.entry-is ∙ sym (past_end b.entries 16 b.place.0 e (omega (arith, w.if-place-lt-MEMBERS.false)))
+    ])

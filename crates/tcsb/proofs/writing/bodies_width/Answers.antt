@@ -35,9 +35,10 @@ loop-i-preserved c =
       (
         omega arith,
         elim c.if-i-slots.branch [
-          then-i-slots+in-Is w ↦ rw w.sum-is (count-more l.invariant.1.1 w.if-i-slots.true (slot_small p _ a.count w.slot_width.ensures w.in-Is.is)
-            (λ h. width_is (slot_spelt_lem p _ a.count h.few (writable_in p a.slots a.count l.i l.invariant.0 w.if-i-slots.true h)) w.slot_width.ensures w.in-Is.is))
-        | else-i-slots w ↦ rw w.sum-is (count_skip l.invariant.1.1 w.if-i-slots.false) ],
+          | then-i-slots+in-Is w ↦ rw w.sum-is (count-more l.invariant.1.1 w.if-i-slots.true (slot_small p _ a.count w.slot_width.ensures w.in-Is.is)
+              (λ h. width_is (slot_spelt_lem p _ a.count h.few (writable_in p a.slots a.count l.i l.invariant.0 w.if-i-slots.true h)) w.slot_width.ensures w.in-Is.is))
+          | else-i-slots w ↦ rw w.sum-is (count_skip l.invariant.1.1 w.if-i-slots.false)
+        ],
       ),
     )
 
@@ -46,4 +47,3 @@ returns c =
     let a = c.args in
     let l = c.loop-i.invariant in
     bodies-counted a.words.now a.slots a.count l.0 l.1.1 (omega arith)
-

@@ -36,9 +36,10 @@ loop-i-preserved c =
       (
         omega arith,
         elim c.if-i-slots.branch [
-          then-i-slots+in-Is w ↦ rw w.sum-is (count-more l.invariant.1.1 w.if-i-slots.true (exception_small a.count _ w.exception_width.ensures w.in-Is.is)
-            (λ h. width_is (exception_told_lem p _ a.count h.few (writable_in p a.slots a.count l.i l.invariant.0 w.if-i-slots.true h) w.exception_of.ensures) w.exception_width.ensures w.in-Is.is))
-        | else-i-slots w ↦ rw w.sum-is (count_skip l.invariant.1.1 w.if-i-slots.false) ],
+          | then-i-slots+in-Is w ↦ rw w.sum-is (count-more l.invariant.1.1 w.if-i-slots.true (exception_small a.count _ w.exception_width.ensures w.in-Is.is)
+              (λ h. width_is (exception_told_lem p _ a.count h.few (writable_in p a.slots a.count l.i l.invariant.0 w.if-i-slots.true h) w.exception_of.ensures) w.exception_width.ensures w.in-Is.is))
+          | else-i-slots w ↦ rw w.sum-is (count_skip l.invariant.1.1 w.if-i-slots.false)
+        ],
       ),
     )
 
@@ -47,4 +48,3 @@ returns c =
     let a = c.args in
     let l = c.loop-i.invariant in
     ids-counted a.words.now a.slots a.count l.0 l.1.1 (omega arith)
-

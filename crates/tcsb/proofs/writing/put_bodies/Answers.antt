@@ -16,9 +16,10 @@ loop-i-preserved c =
       (
         omega arith,
         elim c.if-i-slots.branch [
-          then-i-slots w ↦ rw (w.out-is, w.next-is) (placed-more l.invariant.1.1 w.if-i-slots.true (search rules)
-            (λ h. w.put_slot-next.ensures.puts h.few (writable_in p a.slots a.count l.i l.invariant.0 w.if-i-slots.true h)))
-        | else-i-slots w ↦ rw (w.out-is, w.next-is) (placed_skip l.invariant.1.1 w.if-i-slots.false) ],
+          | then-i-slots w ↦ rw (w.out-is, w.next-is) (placed-more l.invariant.1.1 w.if-i-slots.true (search rules)
+              (λ h. w.put_slot-next.ensures.puts h.few (writable_in p a.slots a.count l.i l.invariant.0 w.if-i-slots.true h)))
+          | else-i-slots w ↦ rw (w.out-is, w.next-is) (placed_skip l.invariant.1.1 w.if-i-slots.false)
+        ],
       ),
     )
 
@@ -30,4 +31,3 @@ returns c =
     let a = c.args in
     let l = c.loop-i.invariant in
     bodies-placed a.words.now a.slots a.count l.0 l.1.1 (omega arith)
-

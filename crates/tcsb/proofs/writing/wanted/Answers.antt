@@ -17,9 +17,10 @@ loop-i-preserved c =
       (
         omega arith,
         elim c.if-i-order.branch [
-          then-i-order+then-is_wanted w ↦ rw w.slots-is (want_more l.1.1 c.loop-i-test.true w.if-i-order.true l.0 w.push-slots.ensures (λ h. test_told t w.load.ensures (w.is_wanted.ensures h.0) w.if-is_wanted.true))
-        | then-i-order+else-is_wanted w ↦ rw w.slots-is (want_not l.1.1 c.loop-i-test.true w.if-i-order.true l.0 (λ h. test_told t w.load.ensures (w.is_wanted.ensures h.0) w.if-is_wanted.false))
-        | else-i-order w ↦ rw w.slots-is (want_skip l.1.1 w.if-i-order.false) ],
+          | then-i-order+then-is_wanted w ↦ rw w.slots-is (want_more l.1.1 c.loop-i-test.true w.if-i-order.true l.0 w.push-slots.ensures (λ h. test_told t w.load.ensures (w.is_wanted.ensures h.0) w.if-is_wanted.true))
+          | then-i-order+else-is_wanted w ↦ rw w.slots-is (want_not l.1.1 c.loop-i-test.true w.if-i-order.true l.0 (λ h. test_told t w.load.ensures (w.is_wanted.ensures h.0) w.if-is_wanted.false))
+          | else-i-order w ↦ rw w.slots-is (want_skip l.1.1 w.if-i-order.false)
+        ],
       ),
     )
 
@@ -27,4 +28,3 @@ pub returns : goal.returns
 returns c =
     let l = c.loop-i.invariant in
     record { few = omega (arith, l.1.1.few, l.1.0); wants = λ few room. want_all l.1.1 (few, room) (omega arith) }
-

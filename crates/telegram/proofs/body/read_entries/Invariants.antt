@@ -1,7 +1,6 @@
 use Prim.Native.Nat.{◌-◌}
 use Rattle.telegram.proofs.Walks.{Filling}
 use Rattle.telegram.specs.Fields.{number}
-use Rattle.telegram.specs.Reading.{entries}
 use Rattle.telegram.proofs.body.read_entries.Given as goal
 
 abbrev pub invariant-loop-i : goal.invariant-loop-i

@@ -1,4 +1,4 @@
-use mathlib.Core.Bool.{true, not}
+use mathlib.Core.Bool.{not}
 use borrow.Author.Tests.{not-true, not-false}
 use Rattle.lists.proofs.Turns.{pass_none, pass_more, pass_fails, pass_all}
 use Rattle.telegram.proofs.Fair.{fair-at}

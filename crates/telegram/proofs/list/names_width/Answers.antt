@@ -1,6 +1,5 @@
 use Rattle.lists.proofs.Laws.{answered_no, answered_yes}
 use Rattle.lists.proofs.Turns.{pass_none, pass_more, pass_fails, pass_all}
-use Rattle.telegram.specs.Writing.{part_fits}
 use Rattle.telegram.proofs.Parts.{part_of, fits_part}
 use Rattle.telegram.proofs.Widths.{measure_none, measure_more, measure_all, sized_width}
 use native.Mathlib.Omega.{arith}

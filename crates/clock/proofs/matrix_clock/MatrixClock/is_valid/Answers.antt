@@ -1,4 +1,3 @@
-use Prim.Native.Nat.{◌≤◌}
 use mathlib.Core.Path.{sym, ◌∙◌}
 use Rattle.clock.proofs.Matrices.{fits_done, below-diagonal}
 use Rattle.clock.proofs.matrix_clock.MatrixClock.is_valid.Goals as goal

@@ -19,9 +19,9 @@ pub loop-k-preserved : goal.loop-k-preserved
 loop-k-preserved c =
     let a = c.args in
     seek_more c.loop-k.invariant (elim c.if-self-k-2.branch [
-      then-self-k-2+else-self-k-3 w ↦ other-number a.self a.origin.0 a.number _ w.if-self-k-3.false
-    | else-self-k-2 w ↦ other-origin a.self a.origin.0 a.number _ w.if-self-k-2.false ])
+      | then-self-k-2+else-self-k-3 w ↦ other-number a.self a.origin.0 a.number _ w.if-self-k-3.false
+      | else-self-k-2 w ↦ other-origin a.self a.origin.0 a.number _ w.if-self-k-2.false
+    ])
 
 pub returns : goal.returns
 returns c = (λ h. seek_all c.loop-k.invariant (omega (arith, c.loop-k-test.false)), record { origins = search rules; numbers = search rules })
-

@@ -12,9 +12,9 @@ returns-in-None c =
 pub loop-k-preserved : goal.loop-k-preserved
 loop-k-preserved c =
     elim c.if-position-lt-SLOTS.branch [
-      then-position-lt-SLOTS w ↦ rw (w.tcsb-is, w.slots-is) (flush_more_lem c.loop-k.invariant c.loop-k-test.true c.row-row.ensures c.first_ready.ensures c.in-At.is w.push-slots.ensures w.deliver_at-d.ensures)
-    | else-position-lt-SLOTS w ↦ rw (w.tcsb-is, w.slots-is) (flush_skip c.loop-k.invariant c.loop-k-test.true c.row-row.ensures c.first_ready.ensures c.in-At.is w.if-position-lt-SLOTS.false) ]
+      | then-position-lt-SLOTS w ↦ rw (w.tcsb-is, w.slots-is) (flush_more_lem c.loop-k.invariant c.loop-k-test.true c.row-row.ensures c.first_ready.ensures c.in-At.is w.push-slots.ensures w.deliver_at-d.ensures)
+      | else-position-lt-SLOTS w ↦ rw (w.tcsb-is, w.slots-is) (flush_skip c.loop-k.invariant c.loop-k-test.true c.row-row.ensures c.first_ready.ensures c.in-At.is w.if-position-lt-SLOTS.false)
+    ]
 
 pub returns : goal.returns
 returns c = flush_all c.loop-k.invariant c.loop-k-test.false
-
