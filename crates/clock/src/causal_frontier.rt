@@ -13,7 +13,7 @@ pub struct CausalFrontier {
 }
 
 // A frontier that a call gives; where it is refused, the one that it was given.
-#[derive(Drop)]
+#[derive(Clone, Copy)]
 pub struct FrontierAnswer {
     pub outcome: Outcome,
     pub frontier: CausalFrontier,

@@ -16,7 +16,7 @@ pub struct EventId {
 }
 
 // A test's answer, or why it is refused.
-#[derive(Drop)]
+#[derive(Clone, Copy)]
 pub enum Tested {
     Is(bool),
     Refused(Refusal),

@@ -24,14 +24,14 @@ pub struct Columns {
 }
 
 // A matrix that a call gives; where it is refused, the one that it was given.
-#[derive(Drop)]
+#[derive(Clone, Copy)]
 pub struct MatrixAnswer {
     pub outcome: Outcome,
     pub matrix: MatrixClock,
 }
 
 // The same with the columns that were raised; none where it is refused.
-#[derive(Drop)]
+#[derive(Clone, Copy)]
 pub struct Raised {
     pub outcome: Outcome,
     pub matrix: MatrixClock,

@@ -25,7 +25,7 @@ pub struct Version {
     pub row: Row,
 }
 
-#[derive(Drop)]
+#[derive(Clone, Copy)]
 pub enum Order {
     Less,
     Equal,
@@ -34,42 +34,42 @@ pub enum Order {
 }
 
 // An entry, or why it is refused.
-#[derive(Drop)]
+#[derive(Clone, Copy)]
 pub enum SeqRead {
     Seq(u32),
     Refused(Refusal),
 }
 
 // A sum of entries, or why it is refused.
-#[derive(Drop)]
+#[derive(Clone, Copy)]
 pub enum Summed {
     Sum(u64),
     Refused(Refusal),
 }
 
 // How two clocks compare, or why they do not.
-#[derive(Drop)]
+#[derive(Clone, Copy)]
 pub enum Compared {
     Is(Order),
     Refused(Refusal),
 }
 
 // The id of the event that a version belongs to, or why there is none.
-#[derive(Drop)]
+#[derive(Clone, Copy)]
 pub enum Named {
     Id(EventId),
     Refused(Refusal),
 }
 
 // A version that a call gives; where it is refused, the one that it was given.
-#[derive(Drop)]
+#[derive(Clone, Copy)]
 pub struct VersionAnswer {
     pub outcome: Outcome,
     pub version: Version,
 }
 
 // The first `count` of `ids`.
-#[derive(Drop)]
+#[derive(Clone, Copy)]
 pub struct Dependencies {
     pub outcome: Outcome,
     pub count: usize,

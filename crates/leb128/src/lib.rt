@@ -9,14 +9,14 @@ ghost use Rattle.leb128.specs.Leb128.{read_at, width_of, Wrote, last_number, spe
 use refusal::Refusal;
 
 // What reading a number at a place finds: its value and the place behind it, or why it is refused.
-#[derive(Drop)]
+#[derive(Clone, Copy)]
 pub enum NumberRead {
     Value { value: u32, next: usize },
     Refused(Refusal),
 }
 
 // The place behind what was written, or why nothing was.
-#[derive(Drop)]
+#[derive(Clone, Copy)]
 pub enum Written {
     Next(usize),
     Refused(Refusal),

@@ -69,7 +69,7 @@ before_same x e y h (inr a) = inr (omega arith)
 same_of : {x y : Event} → x ≡ y → SameId x y
 same_of e = (λ i. (e i).origin.0, λ i. (e i).number)
 
--- ---- insertSorted
+-- ---- insert_sorted
 
 pub insert_self : (e : Event) (l : List Event) → In e (insert_sorted e l)
 unfolding insert_sorted
@@ -112,7 +112,7 @@ insert_sorted_lem e (y ∷ l) s =
     (λ t. (λ x m. before_same y e x t (s.0 x m), s.1))
     (λ t. (λ x m. ⊎_elim (λ c. rw c t) (λ c. before_trans e y x t (s.0 x c)) (Memᴰ.cases_cons m), s))
 
--- ---- delAt and keep
+-- ---- del_at and keep
 
 module _ {A : Type 0} where
   pub delete_in : (i : ℕ) (l : List A) {x : A} → In x (del_at i l) → In x l
@@ -175,7 +175,7 @@ sorted_ext (x ∷ a) (y ∷ b) s t f g =
     heads (inr p) (inl q) = sym q
     heads (inr p) (inr q) = absurd (apart (s.0 y q) (t.0 x p))
 
--- ---- findFrom; positions count from j
+-- ---- find_from; positions count from j
 
 record FoundAt (o n : ℕ) (l : List Event) (j i : ℕ) : Type 0 where
   pub k : ℕ

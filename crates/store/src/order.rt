@@ -18,7 +18,7 @@ pub struct Slots {
 }
 
 // An order and the free slots after a call; where it was not done, as they were.
-#[derive(Drop)]
+#[derive(Clone, Copy)]
 pub struct Kept {
     pub done: bool,
     pub order: Slots,
@@ -26,7 +26,7 @@ pub struct Kept {
 }
 
 // How one id stands to another.
-#[derive(Drop)]
+#[derive(Clone, Copy)]
 pub enum Cmp {
     Less,
     Same,
@@ -34,7 +34,7 @@ pub enum Cmp {
 }
 
 // The position of an id in an order, or where it is to be put.
-#[derive(Drop)]
+#[derive(Clone, Copy)]
 pub enum Found {
     At(usize),
     Gap(usize),

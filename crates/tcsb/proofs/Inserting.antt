@@ -81,7 +81,7 @@ new_to_lem o n (x ∷ l) s = go (find_from o n 0 (x ∷ l)) refl
     go (At i) e = let h = find_at o n i (x ∷ l) e in rw (has-at o n (x ∷ l) i x h.0 (h.1 x)) refl
     go (Gap i) e = rw (has-none o n (x ∷ l) (find_gap o n i (x ∷ l) s e)) refl
 
--- ---- insertSorted
+-- ---- insert_sorted
 
 -- events that compare as the same have the same id
 cmp_same : (a b o n : ℕ) → cmp_of a b o n ≡ Same → (a ≡ o) × (b ≡ n)
@@ -109,7 +109,7 @@ has_insert o n e (x ∷ l) = go (cmp_of x.origin.0 x.number e.origin.0 e.number)
         rw (q.0, q.1) (sym (or_self_left (id_is o n e) (has_in o n l)))
     go More c h = refl
 
--- ---- insertAll
+-- ---- insert_all
 
 pub insert_all-append : (es ds l : List Event) → insert_all (es ++ ds) l ≡ insert_all ds (insert_all es l)
 unfolding insert_all

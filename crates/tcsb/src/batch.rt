@@ -25,13 +25,13 @@ pub struct Tally {
 }
 
 // What a batch answers.
-#[derive(Drop)]
+#[derive(Clone, Copy)]
 pub enum Counted {
     Counts(Tally),
     Refused(Refusal),
 }
 
-#[derive(Drop)]
+#[derive(Clone, Copy)]
 pub struct BatchReceived {
     pub counted: Counted,
     pub tcsb: Tcsb,
@@ -57,7 +57,7 @@ pub struct Survey {
     pub(crate) kept: usize,
 }
 
-#[derive(Drop)]
+#[derive(Clone, Copy)]
 pub struct Surveyed {
     pub(crate) outcome: Outcome,
     pub(crate) survey: Survey,

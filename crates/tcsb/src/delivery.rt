@@ -14,7 +14,7 @@ use store::event::{Event, load};
 use store::order::{Found, SLOTS, Slots, find, prune, remove};
 
 // What next and a named delivery answer.
-#[derive(Drop)]
+#[derive(Clone, Copy)]
 pub enum Delivery {
     Event,
     None,
@@ -22,7 +22,7 @@ pub enum Delivery {
 }
 
 // The event is empty where none is answered.
-#[derive(Drop)]
+#[derive(Clone, Copy)]
 pub struct Delivered {
     pub delivery: Delivery,
     pub event: Event,
@@ -30,7 +30,7 @@ pub struct Delivered {
 }
 
 // What the frontier call answers.
-#[derive(Drop)]
+#[derive(Clone, Copy)]
 pub enum Moved {
     Frontier,
     Same,
@@ -38,7 +38,7 @@ pub enum Moved {
 }
 
 // The frontier as it stands after the call.
-#[derive(Drop)]
+#[derive(Clone, Copy)]
 pub struct Stable {
     pub moved: Moved,
     pub frontier: CausalFrontier,
@@ -46,7 +46,7 @@ pub struct Stable {
 }
 
 // A position of the inbox.
-#[derive(Drop)]
+#[derive(Clone, Copy)]
 pub enum Pick {
     At(usize),
     None,

@@ -22,7 +22,7 @@ pub struct Translation {
 }
 
 // A sender's row, or why its list is refused; then the row is empty.
-#[derive(Drop)]
+#[derive(Clone, Copy)]
 pub struct Translated {
     pub outcome: Outcome,
     pub row: Translation,

@@ -27,13 +27,13 @@ pub enum Verdict {
 }
 
 // What a receive answers.
-#[derive(Drop)]
+#[derive(Clone, Copy)]
 pub enum Receipt {
     Is(Verdict),
     Refused(Refusal),
 }
 
-#[derive(Drop)]
+#[derive(Clone, Copy)]
 pub struct Received {
     pub receipt: Receipt,
     pub tcsb: Tcsb,

@@ -44,7 +44,7 @@ pub struct Tcsb {
 }
 
 // A replica, or why it isn't founded; then it has no members.
-#[derive(Drop)]
+#[derive(Clone, Copy)]
 pub struct Founded {
     pub outcome: Outcome,
     pub tcsb: Tcsb,

@@ -32,14 +32,14 @@ use telegram::since::{
 const LAST: u32 = 4294967295;
 
 // A telegram written into the lent buffer, and the replica after it.
-#[derive(Drop)]
+#[derive(Clone, Copy)]
 pub struct Sent {
     pub written: Written,
     pub tcsb: Tcsb,
 }
 
 // The replica after all deliveries, and the slots of what it delivered, in order.
-#[derive(Drop)]
+#[derive(Clone, Copy)]
 pub struct AllDelivered {
     pub(crate) slots: Slots,
     pub(crate) tcsb: Tcsb,

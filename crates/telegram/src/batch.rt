@@ -24,7 +24,7 @@ pub struct Batch {
     pub bodies: usize,
 }
 
-#[derive(Drop)]
+#[derive(Clone, Copy)]
 pub struct BatchRead {
     pub outcome: Outcome,
     pub batch: Batch,

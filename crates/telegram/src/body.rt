@@ -25,14 +25,14 @@ pub struct Body {
     pub operation: Part,
 }
 
-#[derive(Drop)]
+#[derive(Clone, Copy)]
 pub struct EntriesRead {
     pub outcome: Outcome,
     pub entries: [u32; 16],
     pub next: usize,
 }
 
-#[derive(Drop)]
+#[derive(Clone, Copy)]
 pub struct BodyRead {
     pub outcome: Outcome,
     pub body: Body,

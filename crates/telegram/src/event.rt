@@ -18,7 +18,7 @@ pub struct Event {
     pub body: Body,
 }
 
-#[derive(Drop)]
+#[derive(Clone, Copy)]
 pub struct EventRead {
     pub outcome: Outcome,
     pub event: Event,

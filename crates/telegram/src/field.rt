@@ -16,21 +16,21 @@ pub struct Part {
 }
 
 // A field of bytes, or why it is refused.
-#[derive(Drop)]
+#[derive(Clone, Copy)]
 pub enum PartRead {
     Found(Part),
     Refused(Refusal),
 }
 
 // The place behind several things, or why one of them is refused.
-#[derive(Drop)]
+#[derive(Clone, Copy)]
 pub enum End {
     At(usize),
     Refused(Refusal),
 }
 
 // How many bytes a thing takes, or why it can't be written.
-#[derive(Drop)]
+#[derive(Clone, Copy)]
 pub enum Width {
     Is(usize),
     Refused(Refusal),

@@ -19,7 +19,7 @@ pub struct Head {
     pub entries: [u32; 16],
 }
 
-#[derive(Drop)]
+#[derive(Clone, Copy)]
 pub struct HeadRead {
     pub outcome: Outcome,
     pub head: Head,

@@ -21,7 +21,7 @@ pub struct Names {
     pub parts: [Part; 16],
 }
 
-#[derive(Drop)]
+#[derive(Clone, Copy)]
 pub struct ListRead {
     pub outcome: Outcome,
     pub names: Names,

@@ -24,7 +24,7 @@ pub struct Exception {
 }
 
 // An exception and the place behind it, or why it is refused.
-#[derive(Drop)]
+#[derive(Clone, Copy)]
 pub enum ExceptionRead {
     Found(Exception, usize),
     Refused(Refusal),
@@ -38,7 +38,7 @@ pub struct Since {
     pub exceptions: usize,
 }
 
-#[derive(Drop)]
+#[derive(Clone, Copy)]
 pub struct SinceRead {
     pub outcome: Outcome,
     pub since: Since,
