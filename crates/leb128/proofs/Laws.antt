@@ -13,10 +13,8 @@ use lib.Dec.{ltb, eqb}
 use borrow.Author.Tests.{lt-ltb, le-ltb, le-leb, lt-leb}
 use Rattle.lists.proofs.Cases.{split}
 use Rattle.refusal.specs.Refusal.{no}
-use Rattle.leb128.specs.declared.NumberRead.{NumberRead}
-use Rattle.leb128.specs.declared.NumberRead.TheVariants.{Value, Refused}
-use Rattle.leb128.specs.declared.Written.TheVariants as written
-use Rattle.leb128.specs.Leb128.{last_number, field, value_of, closed, padded, field_read, read_at, groups, spell, width_of, Wrote}
+use Rattle.std.specs.Prelude.{Ok, Err}
+use Rattle.leb128.specs.Leb128.{Read, got, last_number, field, value_of, closed, padded, field_read, read_at, groups, spell, width_of, Wrote}
 
 pub product : (a b m n : ℕ) → a ≤ m → b ≤ n → a * b ≤ m * n
 product a b m n h k = mul-le-mul h k
@@ -73,12 +71,12 @@ scales (suc (suc (suc (suc (suc j))))) h = absurd (omega arith)
 -- ---- reading
 -- what a whole field is read as, given its value, whether it is padded, and the place behind it
 pub read_closed : (f : List ℕ) (at v n : ℕ) (q : Bool) → closed f ≡ true → value_of f ≡ v → padded f ≡ q → at + length f ≡ n
-    → field_read f at ≡ cond (ltb last_number v || q) (Refused (no 2)) (Value v n)
+    → field_read f at ≡ cond (ltb last_number v || q) (Err (no 2)) (got v n)
 unfolding field_read
 read_closed f at v n q c e p l = rw (c, e, p, l)
 
 -- what the start of a field is read as, where the bytes end
-pub read_open : (f : List ℕ) (at : ℕ) → closed f ≡ false → length f < 5 → field_read f at ≡ Refused (no 1)
+pub read_open : (f : List ℕ) (at : ℕ) → closed f ≡ false → length f < 5 → field_read f at ≡ Err (no 1)
 unfolding field_read
 read_open f at c l = rw (c, lt-ltb (length f) 5 l)
 
@@ -119,12 +117,12 @@ module _ {s : List ℕ} {at i p v b : ℕ} (r : Reading s at i p v) (l : i < len
   value : b < 128 → value_of (r.passed ++ (b ∷ [])) ≡ v + b * p
   value h = let m : b % 128 ≡ b = omega arith in value_snoc r.passed b ∙ rw (r.sum, r.scale, m)
 
-  pub ends : {t : NumberRead} → b < 128 → t ≡ cond (ltb last_number (v + b * p) || (eqb b 0 && ltb 1 p)) (Refused (no 2)) (Value (v + b * p) (i + 1)) → t ≡ read_at s at
+  pub ends : {t : Read ℕ} → b < 128 → t ≡ cond (ltb last_number (v + b * p) || (eqb b 0 && ltb 1 p)) (Err (no 2)) (got (v + b * p) (i + 1)) → t ≡ read_at s at
   ends h e =
       let f = whole [] (rw (lt-ltb b 128 h)) in
       e ∙ sym (rw f (read_closed (r.passed ++ (b ∷ [])) at _ _ _ (closed_snoc r.passed b ∙ lt-ltb _ _ h) (value h) (rw r.scale (zero-behind r.passed b)) longer))
 
-  pub large : 128 ≤ b → p ≡ 268435456 → read_at s at ≡ Refused (no 2)
+  pub large : 128 ≤ b → p ≡ 268435456 → read_at s at ≡ Err (no 2)
   unfolding field field_read
   large h k =
       let none : r.more ≡ 0 = ⊎_elim (λ w. omega (arith, w.0, r.few)) (λ w. absurd (omega (arith, w.1, r.scale))) (scales (length r.passed) (omega (arith, r.few))) in
@@ -158,7 +156,7 @@ module _ {s : List ℕ} {at i p v b : ℕ} (r : Reading s at i p v) (l : i < len
       rest zero e = absurd (few e)
       rest (suc j) e = step j e
 
-pub over : {s : List ℕ} {at i p v : ℕ} → Reading s at i p v → length s ≤ i → read_at s at ≡ Refused (no 1)
+pub over : {s : List ℕ} {at i p v : ℕ} → Reading s at i p v → length s ≤ i → read_at s at ≡ Err (no 1)
 unfolding field
 over {s} {at} {i} r h = rw (r.same, drop_of_length-le s {i = i} h, append-nil, read_open r.passed at r.unclosed (omega (arith, r.few)))
 
@@ -231,9 +229,9 @@ pub put_last : {before now : List ℕ} {at value i n : ℕ} → Putting before n
 put_last {now = now} {i = i} {n = n} r h = set_split now i n (put_room r) ∙ sym (r.same ∙ rw (narrow r.more n h, add-one))
 
 -- ---- what a call of write ends with
-pub no_room : (out : List ℕ) (at n : ℕ) → length out < at + width_of n → Wrote out out at n (written.Refused (no 15))
+pub no_room : (out : List ℕ) (at n : ℕ) → length out < at + width_of n → Wrote out out at n (Err (no 15))
 no_room out at n h = let f = lt-leb (at + width_of n) (length out) h in record { answers = rw f; holds = rw f }
 
 pub wrote : (out after : List ℕ) (at n w : ℕ) → at + width_of n ≤ length out → w ≡ width_of n → after ≡ take at out ++ (spell n ++ drop (at + width_of n) out)
-    → Wrote out after at n (written.Next (at + w))
+    → Wrote out after at n (Ok (at + w))
 wrote out after at n w h e a = let f = le-leb (at + width_of n) (length out) h in record { answers = rw (f, e); holds = rw f a }

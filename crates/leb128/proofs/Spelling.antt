@@ -11,9 +11,9 @@ use lib.Dec.{ltb}
 use borrow.Author.Tests.{lt-ltb, le-ltb, ltb-true, ltb-false, leb-true, eqb-false, ne_eqb}
 use Rattle.refusal.specs.Refusal.{no}
 use Rattle.lists.proofs.Cases.{split}
-use Rattle.leb128.specs.declared.NumberRead.{NumberRead}
-use Rattle.leb128.specs.declared.NumberRead.TheVariants.{Value, Refused}
-use Rattle.leb128.specs.Leb128.{last_number, field, value_of, closed, padded, field_read, read_at, groups, spell, width_of, fits_at, bytes_at}
+use Rattle.std.specs.Prelude.{Ok, Err}
+use Rattle.leb128.proofs.Gots.{got_value, got_next}
+use Rattle.leb128.specs.Leb128.{Read, got, last_number, field, value_of, closed, padded, field_read, read_at, groups, spell, width_of, fits_at, bytes_at}
 use Rattle.leb128.proofs.Laws.{read_closed, read_open, narrow, wider, lengths, Holds}
 
 -- every element is a byte
@@ -77,7 +77,7 @@ unfolding field
 field-groups t = each (λ k n g. field (suc k) (g ++ t) ≡ g) (λ k n h. rw (lt-ltb n 128 h)) (λ k n g h r. rw (le-ltb (128 + n % 128) 128 (omega arith), r))
 
 -- a number's bytes are read as that number, whatever stands around them
-pub read_spelt : (n at : ℕ) (s rest : List ℕ) → n ≤ last_number → drop at s ≡ spell n ++ rest → read_at s at ≡ Value n (at + width_of n)
+pub read_spelt : (n at : ℕ) (s rest : List ℕ) → n ≤ last_number → drop at s ≡ spell n ++ rest → read_at s at ≡ got n (at + width_of n)
 read_spelt n at s rest h e =
     let g = spells 4 n (four n h) in
     rw (e, field-groups rest 4 n (four n h), read_closed (spell n) at n (at + width_of n) false g.whole g.value g.shortest refl, le-ltb last_number n h)
@@ -103,13 +103,13 @@ record Whole (f : List ℕ) (at n next : ℕ) : Type 0 where
   value : value_of f ≡ n
   place : at + length f ≡ next
 
-read_value : (f : List ℕ) (at n next : ℕ) → field_read f at ≡ Value n next → Whole f at n next
+read_value : (f : List ℕ) (at n next : ℕ) → field_read f at ≡ got n next → Whole f at n next
 unfolding field_read
 read_value f at n next = pick (closed f) (ltb last_number (value_of f)) (padded f) (ltb (length f) 5) refl refl refl
   where
     pick : (c t u w : Bool) → closed f ≡ c → ltb last_number (value_of f) ≡ t → padded f ≡ u
-        → cond c (cond (t || u) (Refused (no 2)) (Value (value_of f) (at + length f))) (cond w (Refused (no 1)) (Refused (no 2))) ≡ Value n next → Whole f at n next
-    pick true false false w a b c e = record { whole = a; most = ltb-false _ _ b; shortest = c; value = cc; place = cc }
+        → cond c (cond (t || u) (Err (no 2)) (got (value_of f) (at + length f))) (cond w (Err (no 1)) (Err (no 2))) ≡ got n next → Whole f at n next
+    pick true false false w a b c e = record { whole = a; most = ltb-false _ _ b; shortest = c; value = got_value e; place = got_next e }
     pick true false true w a b c e = let z : ◌≡◌ {A = ℕ} 0 1 = cc in absurd (omega arith)
     pick true true u w a b c e = let z : ◌≡◌ {A = ℕ} 0 1 = cc in absurd (omega arith)
     pick false t u true a b c e = let z : ◌≡◌ {A = ℕ} 0 1 = cc in absurd (omega arith)
@@ -167,7 +167,7 @@ pub record Spelt (s : List ℕ) (at n next : ℕ) : Type 0 where
   pub range : n ≤ last_number
 
 -- only a number's own bytes are read as that number
-pub only_spelling : (s : List ℕ) (at n next : ℕ) → Bytes s → read_at s at ≡ Value n next → Spelt s at n next
+pub only_spelling : (s : List ℕ) (at n next : ℕ) → Bytes s → read_at s at ≡ got n next → Spelt s at n next
 only_spelling s at n next t e =
     let w = read_value (field 5 (drop at s)) at n next e in
     let g : spell n ≡ field 5 (drop at s) = rw (← w.value) (spelt 4 (drop at s) (λ i. rw get_or-drop (t (at + i))) w.whole w.shortest) in
@@ -194,7 +194,7 @@ closed_some [] c = clash (sym c)
 closed_some (b ∷ f) c = omega arith
 
 -- a number that is read ends inside the bytes
-pub read_inside : (s : List ℕ) (at n next : ℕ) → read_at s at ≡ Value n next → next ≤ length s
+pub read_inside : (s : List ℕ) (at n next : ℕ) → read_at s at ≡ got n next → next ≤ length s
 read_inside s at n next e =
     let w = read_value (field 5 (drop at s)) at n next e in
     omega (arith, w.place, closed_some (field 5 (drop at s)) w.whole, field_within 5 (drop at s), length-drop at s)
@@ -209,12 +209,12 @@ pub record Unended (s : List ℕ) (at : ℕ) : Type 0 where
   pub few : length (drop at s) < 5
   pub high : (i : ℕ) → i < length (drop at s) → 128 ≤ get_or (drop at s) i 0
 
-read_unended : (f : List ℕ) (at : ℕ) → field_read f at ≡ Refused (no 1) → (closed f ≡ false) × (length f < 5)
+read_unended : (f : List ℕ) (at : ℕ) → field_read f at ≡ Err (no 1) → (closed f ≡ false) × (length f < 5)
 unfolding field_read
 read_unended f at = pick (closed f) (ltb last_number (value_of f) || padded f) (ltb (length f) 5) refl refl
   where
     pick : (c t w : Bool) → closed f ≡ c → ltb (length f) 5 ≡ w
-        → cond c (cond t (Refused (no 2)) (Value (value_of f) (at + length f))) (cond w (Refused (no 1)) (Refused (no 2))) ≡ Refused (no 1) → (closed f ≡ false) × (length f < 5)
+        → cond c (cond t (Err (no 2)) (got (value_of f) (at + length f))) (cond w (Err (no 1)) (Err (no 2))) ≡ Err (no 1) → (closed f ≡ false) × (length f < 5)
     pick true true w a b e = let z : ◌≡◌ {A = ℕ} 0 1 = cc in absurd (omega arith)
     pick true false w a b e = let z : ◌≡◌ {A = ℕ} 0 1 = cc in absurd (omega arith)
     pick false t true a b e = (a, ltb-true _ _ b)
@@ -251,18 +251,18 @@ all_high (suc k) (b ∷ s) l h = let r = all_high k s (omega arith) (λ i m. h (
     rest (d ∷ g) c = c
 
 -- refusal 1 is answered just where the bytes end inside a field
-pub refused_one : (s : List ℕ) (at : ℕ) → (read_at s at ≡ Refused (no 1) → Unended s at) × (Unended s at → read_at s at ≡ Refused (no 1))
+pub refused_one : (s : List ℕ) (at : ℕ) → (read_at s at ≡ Err (no 1) → Unended s at) × (Unended s at → read_at s at ≡ Err (no 1))
 refused_one s at = (gone, back)
   where
-    gone : read_at s at ≡ Refused (no 1) → Unended s at
+    gone : read_at s at ≡ Err (no 1) → Unended s at
     gone e = let r = read_unended (field 5 (drop at s)) at e in let u = unclosed 5 (drop at s) r.0 r.1 in record { few = u.0; high = u.1 }
 
-    back : Unended s at → read_at s at ≡ Refused (no 1)
+    back : Unended s at → read_at s at ≡ Err (no 1)
     back u = let h = all_high 5 (drop at s) u.few u.high in rw h.0 (read_open (drop at s) at h.1 u.few)
 
 -- ---- writing
 -- the bytes written are read as the number
-pub write_read : (out : List ℕ) (at n : ℕ) → fits_at out at n ≡ true → n ≤ last_number → read_at (bytes_at out at n) at ≡ Value n (at + width_of n)
+pub write_read : (out : List ℕ) (at n : ℕ) → fits_at out at n ≡ true → n ≤ last_number → read_at (bytes_at out at n) at ≡ got n (at + width_of n)
 write_read out at n f h = read_spelt n at (bytes_at out at n) (drop (at + width_of n) out) h
     (rw f (drop_at (take at out) _ at (length-take-le at out (omega (arith, leb-true (at + width_of n) (length out) f)))))
 
@@ -304,23 +304,23 @@ write_outside out at n i o = pick (fits_at out at n) refl
 
 -- ---- the document's rows
 -- bytes, and what they are read as
-abbrev pub rows : List (List ℕ × NumberRead)
+abbrev pub rows : List (List ℕ × Read ℕ)
 rows =
-    (0x7F ∷ [], Value 127 1)
-    ∷ (0x80 ∷ 0x01 ∷ [], Value 128 2)
-    ∷ (0xFF ∷ 0xFF ∷ 0x03 ∷ [], Value 65535 3)
-    ∷ (0x80 ∷ 0x80 ∷ 0x04 ∷ [], Value 65536 3)
-    ∷ (0xFF ∷ 0xFF ∷ 0xFF ∷ 0xFF ∷ 0x0F ∷ [], Value 4294967295 5)
-    ∷ (0xFF ∷ 0xFF ∷ 0xFF ∷ 0xFF ∷ 0x10 ∷ [], Refused (no 2))
-    ∷ (0x80 ∷ 0x00 ∷ [], Refused (no 2))
+    (0x7F ∷ [], got 127 1)
+    ∷ (0x80 ∷ 0x01 ∷ [], got 128 2)
+    ∷ (0xFF ∷ 0xFF ∷ 0x03 ∷ [], got 65535 3)
+    ∷ (0x80 ∷ 0x80 ∷ 0x04 ∷ [], got 65536 3)
+    ∷ (0xFF ∷ 0xFF ∷ 0xFF ∷ 0xFF ∷ 0x0F ∷ [], got 4294967295 5)
+    ∷ (0xFF ∷ 0xFF ∷ 0xFF ∷ 0xFF ∷ 0x10 ∷ [], Err (no 2))
+    ∷ (0x80 ∷ 0x00 ∷ [], Err (no 2))
     ∷ []
 
 -- the spelling of the number read; where none was, the bytes themselves
-abbrev pub respelt : List ℕ → NumberRead → List ℕ
-respelt b (Value n next) = spell n
-respelt b (Refused r) = b
+abbrev pub respelt : List ℕ → Read ℕ → List ℕ
+respelt b (Ok g) = spell g.value
+respelt b (Err r) = b
 
 -- every row's bytes are read so, and are the spelling of the number read
-pub rows_hold : map (λ (r : List ℕ × NumberRead). (respelt r.0 r.1, read_at r.0 0)) rows ≡ rows
+pub rows_hold : map (λ (r : List ℕ × Read ℕ). (respelt r.0 r.1, read_at r.0 0)) rows ≡ rows
 unfolding field value_of closed padded field_read groups
 rows_hold = refl

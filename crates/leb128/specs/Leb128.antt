@@ -1,12 +1,18 @@
 -- A telegram number, from document 01's section Telegrams and DWARF 4, section 7.6: groups of seven bits, low group first, high
 -- bit set on all but the last; the last group isn't zero unless it is the only one; at most five bytes. Assumes nothing.
-use Rattle.std.specs.Prelude.{ℕ, zero, suc, ◌+◌, ◌*◌, ◌/◌, ◌%◌, ◌≡◌, Bool, false, cond, ◌||◌, List, [], ◌∷◌, length, drop, ltb, leb, eqb}
+use Rattle.std.specs.Prelude.{ℕ, Result, Ok, Err, zero, suc, ◌+◌, ◌*◌, ◌/◌, ◌%◌, ◌≡◌, Bool, false, cond, ◌||◌, List, [], ◌∷◌, length, drop, ltb, leb, eqb}
 use Rattle.lists.specs.Lists.{laid}
 use Rattle.refusal.specs.Refusal.{no}
-use Rattle.leb128.specs.declared.NumberRead.{NumberRead}
-use Rattle.leb128.specs.declared.NumberRead.TheVariants.{Value, Refused}
-use Rattle.leb128.specs.declared.Written.{Written}
-use Rattle.leb128.specs.declared.Written.TheVariants as written
+use Rattle.refusal.specs.declared.Refusal.{Refusal}
+use Rattle.leb128.specs.declared.Got.{Got}
+
+-- ---- what reading at a place gives: a thing and the place behind it, or a refusal
+
+abbrev pub Read : Type 0 → Type 0
+Read A = Result (Got A) Refusal
+
+abbrev pub got : {A : Type 0} → A → ℕ → Read A
+got a next = Ok (record { value = a; next = next })
 
 -- ---- reading
 
@@ -39,13 +45,13 @@ padded (b ∷ c ∷ d ∷ s) = padded (c ∷ d ∷ s)
 
 -- what a field at a place is read as: 1 where the bytes end before it does; 2 where five bytes have the high bit, where it is
 -- too large or not shortest; else its value, and the place behind it
-unfoldable pub field_read : List ℕ → ℕ → NumberRead
+unfoldable pub field_read : List ℕ → ℕ → Read ℕ
 field_read f at =
     cond (closed f)
-    (cond (ltb last_number (value_of f) || padded f) (Refused (no 2)) (Value (value_of f) (at + length f)))
-    (cond (ltb (length f) 5) (Refused (no 1)) (Refused (no 2)))
+    (cond (ltb last_number (value_of f) || padded f) (Err (no 2)) (got (value_of f) (at + length f)))
+    (cond (ltb (length f) 5) (Err (no 1)) (Err (no 2)))
 
-abbrev pub read_at : List ℕ → ℕ → NumberRead
+abbrev pub read_at : List ℕ → ℕ → Read ℕ
 read_at s at = field_read (field 5 (drop at s)) at
 
 -- ---- writing
@@ -67,14 +73,14 @@ abbrev pub fits_at : List ℕ → ℕ → ℕ → Bool
 fits_at out at n = leb (at + width_of n) (length out)
 
 -- what writing a number at a place answers: the place behind it, or 15 where the buffer is too short
-abbrev pub write_at : List ℕ → ℕ → ℕ → Written
-write_at out at n = cond (fits_at out at n) (written.Next (at + width_of n)) (written.Refused (no 15))
+abbrev pub write_at : List ℕ → ℕ → ℕ → Result ℕ Refusal
+write_at out at n = cond (fits_at out at n) (Ok (at + width_of n)) (Err (no 15))
 
 -- what the buffer then holds: the number's bytes in their place, and every other byte as it was
 abbrev pub bytes_at : List ℕ → ℕ → ℕ → List ℕ
 bytes_at out at n = cond (fits_at out at n) (laid out at (spell n)) out
 
 -- the answer and the buffer afterwards
-pub record Wrote (out after : List ℕ) (at n : ℕ) (answer : Written) : Type 0 where
+pub record Wrote (out after : List ℕ) (at n : ℕ) (answer : Result ℕ Refusal) : Type 0 where
   pub answers : answer ≡ write_at out at n
   pub holds : after ≡ bytes_at out at n

@@ -4,74 +4,53 @@
 ghost use Rattle.std.specs.Prelude.{◌≡◌, cond, ◌||◌, ◌&&◌, ◌+◌, ◌*◌, ◌<◌, ◌≤◌, ltb, eqb, length};
 ghost use Rattle.lists.specs.Lists.{laid};
 ghost use Rattle.refusal.specs.Refusal.{no};
-ghost use Rattle.leb128.specs.Leb128.{read_at, width_of, Wrote, last_number, spell};
+ghost use Rattle.leb128.specs.Leb128.{got, read_at, width_of, Wrote, last_number, spell};
 
 use refusal::Refusal;
 
-// What reading a number at a place finds: its value and the place behind it, or why it is refused.
-#[derive(Clone, Copy)]
-pub enum NumberRead {
-    Value { value: u32, next: usize },
-    Refused(Refusal),
+// What was read at a place, and the place behind it.
+#[derive(Clone, Copy, Debug, PartialEq, Eq)]
+pub struct Got<T> {
+    pub value: T,
+    pub next: usize,
 }
 
-// The place behind what was written, or why nothing was.
-#[derive(Clone, Copy)]
-pub enum Written {
-    Next(usize),
-    Refused(Refusal),
-}
-
-const LAST_NUMBER: u64 = 4294967295;
+const LAST_NUMBER: u64 = u32::MAX as u64;
 
 // What a fifth byte's group counts by: 128 four times over.
 const FIFTH_SCALE: u64 = 268435456;
 
-// A byte as a wide number.
-fn wide(b: u8) -> u64
-    ensures { (result ≡ b) × (result < 256) }
-{
-    b as u64
-}
-
 // The number that a last byte makes, at its scale over the sum of the groups before it.
-fn last(b: u64, next: usize, scale: u64, sum: u64) -> NumberRead
+fn last(b: u64, next: usize, scale: u64, sum: u64) -> Result<Got<u32>, Refusal>
     requires { (b < 128) × (scale ≤ 268435456) × (sum < 268435456) }
-    ensures { result ≡ cond (ltb last_number (sum + b * scale) || (eqb b 0 && ltb 1 scale)) (NumberRead.Refused (no 2)) (NumberRead.Value (sum + b * scale) next) }
+    ensures { result ≡ cond (ltb last_number (sum + b * scale) || (eqb b 0 && ltb 1 scale)) (Err (no 2)) (got (sum + b * scale) next) }
 {
     let value = sum + b * scale;
-    if LAST_NUMBER < value {
-        return NumberRead::Refused(Refusal::BadNumber);
+    if LAST_NUMBER < value || b == 0 && 1 < scale {
+        return Err(Refusal::BadNumber);
     }
-    if b == 0 && 1 < scale {
-        return NumberRead::Refused(Refusal::BadNumber);
-    }
-    NumberRead::Value {
-        value: value as u32,
-        next,
-    }
+    let value = value as u32;
+    Ok(Got { value, next })
 }
 
 // The number that stands at a place of a slice.
-pub fn read(s: &[u8], at: usize) -> NumberRead
+pub fn read(s: &[u8], at: usize) -> Result<Got<u32>, Refusal>
     ensures { result ≡ read_at s.now at }
 {
-    let mut i = at;
     let mut scale: u64 = 1;
     let mut sum: u64 = 0;
-    while i < s.len() {
-        let b = wide(s[i]);
-        i += 1;
+    for i in at..s.len() {
+        let b = u64::from(s[i]);
         if b < 128 {
-            return last(b, i, scale, sum);
+            return last(b, i + 1, scale, sum);
         }
         if scale == FIFTH_SCALE {
-            return NumberRead::Refused(Refusal::BadNumber);
+            return Err(Refusal::BadNumber);
         }
         sum += (b - 128) * scale;
         scale *= 128;
     }
-    NumberRead::Refused(Refusal::EndsInField)
+    Err(Refusal::EndsInField)
 }
 
 // How many bytes a number takes.
@@ -100,6 +79,7 @@ fn put(out: &mut [u8], at: usize, value: u32)
 {
     let mut i = at;
     let mut n = value;
+    // kept: the number itself says when its last group is reached; how many groups it has would have to be counted first
     while 128 <= n {
         out[i] = (128 + n % 128) as u8;
         n /= 128;
@@ -108,17 +88,14 @@ fn put(out: &mut [u8], at: usize, value: u32)
     out[i] = n as u8;
 }
 
-// Writes a number at a place of a buffer.
-pub fn write(out: &mut [u8], at: usize, value: u32) -> Written
+// Writes a number at a place of a buffer; the answer is the place behind it.
+pub fn write(out: &mut [u8], at: usize, value: u32) -> Result<usize, Refusal>
     ensures { Wrote out.old out.new at value result }
 {
     let count = width(value);
-    if out.len() < count {
-        return Written::Refused(Refusal::BufferShort);
-    }
-    if out.len() - count < at {
-        return Written::Refused(Refusal::BufferShort);
+    if out.len() < count || out.len() - count < at {
+        return Err(Refusal::BufferShort);
     }
     put(out, at, value);
-    Written::Next(at + count)
+    Ok(at + count)
 }

@@ -1,9 +1,7 @@
 -- Document 01's refusal numbers: the number of each case, and the case of each number. Assumes nothing.
-use Rattle.std.specs.Prelude.{ℕ, cond, eqb}
+use Rattle.std.specs.Prelude.{ℕ, cond, eqb, Result, Ok, Err}
 use Rattle.refusal.specs.declared.Refusal.{Refusal}
 use Rattle.refusal.specs.declared.Refusal.TheVariants.{EndsInField, BadNumber, WrongKind, OutOfRange, BytesFollow, BadName, NoMember, ListDiffers, BadPlace, FromOurselves, BadEventNumber, InboxFull, OutboxFull, LastNumber, BufferShort}
-use Rattle.refusal.specs.declared.Outcome.{Outcome}
-use Rattle.refusal.specs.declared.Outcome.TheVariants.{Done, Refused}
 
 abbrev pub number_of : Refusal → ℕ
 number_of EndsInField = 1
@@ -40,7 +38,7 @@ no k =
     (cond (eqb k 13) OutboxFull
     (cond (eqb k 14) LastNumber BufferShort)))))))))))))
 
--- what an outcome gives: `a` where it is done, and the refusal's answer where it is refused
-abbrev pub unless : {A : Type 0} → Outcome → (Refusal → A) → A → A
-unless Done f a = a
-unless (Refused r) f a = f r
+-- what comes next is asked of the value; a refusal stays
+abbrev pub then : {A B : Type 0} → Result A Refusal → (A → Result B Refusal) → Result B Refusal
+then (Ok a) f = f a
+then (Err r) f = Err r
