@@ -1,3 +1,5 @@
+pub mod Becoming
+pub mod Ids
 pub mod Entrywise
 pub mod Matrices
 pub mod Listing

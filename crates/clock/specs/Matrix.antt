@@ -1,24 +1,16 @@
 -- The matrix clock, from document 01's section Versions and its calls Next and Frontier. Assumes nothing.
-use Rattle.std.specs.Prelude.{ℕ, ◌-◌, Bool, false, cond, ◌&&◌, List, get_or, set, leb, ltb, eqb}
+use Rattle.std.specs.Prelude.{ℕ, ◌-◌, Bool, false, cond, ◌&&◌, List, get_or, set, leb, ltb, eqb, Result, Ok}
 use Rattle.refusal.specs.declared.Refusal.{Refusal}
-use Rattle.refusal.specs.declared.Outcome.{Outcome}
-use Rattle.refusal.specs.declared.Outcome.TheVariants.{Done, Refused}
-use Rattle.refusal.specs.Refusal.{unless}
+use Rattle.refusal.specs.Refusal.{then}
 use Rattle.lists.specs.Lists.{at, tab, over, all, any, least}
 use Rattle.clock.specs.Entries.{zero_entries, join_entries, at_most, same_entries}
-use Rattle.clock.specs.Version.{fits_of, kept_version, done_version, no_version}
-use Rattle.clock.specs.Frontier.{kept_frontier, done_frontier, with_cut}
-use Rattle.clock.specs.declared.id.Tested.{Tested}
-use Rattle.clock.specs.declared.id.Tested.TheVariants as tested
+use Rattle.clock.specs.Version.{fits_of}
+use Rattle.clock.specs.Frontier.{with_cut}
 use Rattle.clock.specs.declared.version_vector.Row.{Row}
 use Rattle.clock.specs.declared.version_vector.Version.{Version}
-use Rattle.clock.specs.declared.version_vector.VersionAnswer.{VersionAnswer}
 use Rattle.clock.specs.declared.causal_frontier.CausalFrontier.{CausalFrontier}
-use Rattle.clock.specs.declared.causal_frontier.FrontierAnswer.{FrontierAnswer}
 use Rattle.clock.specs.declared.matrix_clock.MatrixClock.{MatrixClock}
-use Rattle.clock.specs.declared.matrix_clock.MatrixAnswer.{MatrixAnswer}
 use Rattle.clock.specs.declared.matrix_clock.Columns.{Columns}
-use Rattle.clock.specs.declared.matrix_clock.Raised.{Raised}
 
 -- ---- rows and cells
 
@@ -38,36 +30,30 @@ abbrev pub with_row_at : MatrixClock → ℕ → List ℕ → MatrixClock
 with_row_at m i l = with_rows m (set m.rows i (record { entries = l }))
 
 -- our own place and another; those, and a version
-abbrev pub fits_matrix : MatrixClock → ℕ → Outcome
+abbrev pub fits_matrix : MatrixClock → ℕ → Result (Unit {0}) Refusal
 fits_matrix m i = fits_of m.members m.members m.origin.0 i
 
-abbrev pub fits_update : MatrixClock → ℕ → Version → Outcome
+abbrev pub fits_update : MatrixClock → ℕ → Version → Result (Unit {0}) Refusal
 fits_update m i v =
-    unless (fits_of m.members v.members m.origin.0 i) Refused (fits_of m.members v.members v.origin.0 v.origin.0)
-
-abbrev pub kept_matrix : MatrixClock → Refusal → MatrixAnswer
-kept_matrix m why = record { outcome = Refused why; matrix = m }
-
-abbrev pub done_matrix : MatrixClock → MatrixAnswer
-done_matrix m = record { outcome = Done; matrix = m }
+    then (fits_of m.members v.members m.origin.0 i) (λ _. fits_of m.members v.members v.origin.0 v.origin.0)
 
 -- ---- the calls
 
--- a matrix of zeros; one of no members stands where there is no matrix
+-- a matrix of zeros
 abbrev pub zero_matrix : ℕ → ℕ → MatrixClock
 zero_matrix i n = record { members = n; origin = record { 0 = i }; rows = tab 16 (λ k. zero_row) }
 
-abbrev pub new_matrix : ℕ → ℕ → MatrixAnswer
-new_matrix i n = unless (fits_of n n i i) (kept_matrix (zero_matrix 0 0)) (done_matrix (zero_matrix i n))
+abbrev pub new_matrix : ℕ → ℕ → Result MatrixClock Refusal
+new_matrix i n = then (fits_of n n i i) (λ _. Ok (zero_matrix i n))
 
 -- row i as the version of the member at that place
-abbrev pub version_at : MatrixClock → ℕ → VersionAnswer
+abbrev pub version_at : MatrixClock → ℕ → Result Version Refusal
 version_at m i =
-    unless (fits_matrix m i) (kept_version no_version)
-    (done_version (record { members = m.members; origin = record { 0 = i }; row = record { entries = row_of m.rows i } }))
+    then (fits_matrix m i)
+    (λ _. Ok (record { members = m.members; origin = record { 0 = i }; row = record { entries = row_of m.rows i } }))
 
-abbrev pub set_row : MatrixClock → ℕ → Version → MatrixAnswer
-set_row m i v = unless (fits_update m i v) (kept_matrix m) (done_matrix (with_row_at m i v.row.entries))
+abbrev pub set_row : MatrixClock → ℕ → Version → Result MatrixClock Refusal
+set_row m i v = then (fits_update m i v) (λ _. Ok (with_row_at m i v.row.entries))
 
 -- ---- raised columns
 
@@ -79,15 +65,14 @@ no_columns = tab 16 (λ j. false)
 abbrev pub raised_of : ℕ → List ℕ → List ℕ → List Bool
 raised_of n r v = over false n (λ j. ltb (at r j) (at v j)) no_columns
 
-abbrev pub raised_answer : Outcome → MatrixClock → List Bool → Raised
-raised_answer o m l = record { outcome = o; matrix = m; columns = record { raised = l } }
-
 -- the row takes every larger entry, and those columns are the raised ones
-abbrev pub set_row_incremental : MatrixClock → ℕ → Version → Raised
+abbrev pub set_row_incremental : MatrixClock → ℕ → Version → Result (MatrixClock × Columns) Refusal
 set_row_incremental m i v =
-    unless (fits_update m i v) (λ why. raised_answer (Refused why) m no_columns)
-    (raised_answer Done (with_row_at m i (join_entries m.members (row_of m.rows i) v.row.entries))
-    (raised_of m.members (row_of m.rows i) v.row.entries))
+    then (fits_update m i v)
+    (λ _. Ok (
+      with_row_at m i (join_entries m.members (row_of m.rows i) v.row.entries),
+      record { raised = raised_of m.members (row_of m.rows i) v.row.entries },
+    ))
 
 -- ---- the column rule
 
@@ -102,10 +87,10 @@ column rows n raised j x = cond (get_or raised j false) (settled rows n j x) x
 abbrev pub settled_cut : List Row → ℕ → List Bool → List ℕ → List ℕ
 settled_cut rows n raised f = over 0 n (λ j. column rows n raised j (at f j)) f
 
-abbrev pub column_wise_min : MatrixClock → CausalFrontier → Columns → FrontierAnswer
+abbrev pub column_wise_min : MatrixClock → CausalFrontier → Columns → Result CausalFrontier Refusal
 column_wise_min m f c =
-    unless (fits_of m.members f.members m.origin.0 m.origin.0) (kept_frontier f)
-    (done_frontier (with_cut f (settled_cut m.rows m.members c.raised f.row.entries)))
+    then (fits_of m.members f.members m.origin.0 m.origin.0)
+    (λ _. Ok (with_cut f (settled_cut m.rows m.members c.raised f.row.entries)))
 
 -- ---- validity: no row i has entry j above row j's entry j, and our own row is entrywise the largest. A matrix of n members
 -- has n rows of n entries, so it is square
@@ -116,10 +101,10 @@ diagonal rows n = all n (λ i. all n (λ j. leb (cell rows i j) (cell rows j j))
 abbrev pub dominate : List Row → ℕ → ℕ → Bool
 dominate rows n own = all n (λ i. at_most n (row_of rows i) (row_of rows own))
 
-abbrev pub valid_of : MatrixClock → Tested
+abbrev pub valid_of : MatrixClock → Result Bool Refusal
 valid_of m =
-    unless (fits_matrix m m.origin.0) tested.Refused
-    (tested.Is (diagonal m.rows m.members && dominate m.rows m.members m.origin.0))
+    then (fits_matrix m m.origin.0)
+    (λ _. Ok (diagonal m.rows m.members && dominate m.rows m.members m.origin.0))
 
 -- same list, same origin, same rows
 abbrev pub same_rows : ℕ → List Row → List Row → Bool

@@ -1,207 +1,127 @@
 // The stable cut: one entry per member, of no event's own.
 ghost use Rattle.std.specs.Prelude.{◌≡◌};
-ghost use Rattle.clock.specs.Frontier.{new_frontier, cut_seq, cut_set, cut_sum, cut_join, cut_join_version, cut_meet, contains_of, cut_compare, same_frontier, frontier_from, kept_frontier, done_frontier, with_cut};
+ghost use Rattle.clock.specs.Becomes.{Becomes};
+ghost use Rattle.clock.specs.Frontier.{new_frontier, cut_seq, cut_set, cut_sum, cut_join, cut_join_version, cut_meet, contains_of, cut_compare, same_frontier, frontier_from};
+ghost use Rattle.clock.specs.Sameness.{same_frontier_equiv, same_frontier_per};
 
-use crate::id::{EventId, ReplicaIdx, Tested};
-use crate::version_vector::{Compared, Row, SeqRead, Summed, Version, fit};
-use refusal::{Outcome, Refusal};
+use crate::id::{EventId, ReplicaIdx};
+use crate::version_vector::{Row, Version, fit};
+use refusal::Refusal;
+use std::cmp::Ordering;
 
-#[derive(Clone, Copy)]
+#[derive(Clone, Copy, Debug)]
 pub struct CausalFrontier {
     pub members: usize,
     pub row: Row,
 }
 
-// A frontier that a call gives; where it is refused, the one that it was given.
-#[derive(Clone, Copy)]
-pub struct FrontierAnswer {
-    pub outcome: Outcome,
-    pub frontier: CausalFrontier,
-}
-
-pub(crate) fn kept(frontier: CausalFrontier, why: Refusal) -> FrontierAnswer
-    ensures { result ≡ kept_frontier frontier why }
-{
-    let outcome = Outcome::Refused(why);
-    FrontierAnswer { outcome, frontier }
-}
-
-pub(crate) fn done(frontier: CausalFrontier) -> FrontierAnswer
-    ensures { result ≡ done_frontier frontier }
-{
-    FrontierAnswer {
-        outcome: Outcome::Done,
-        frontier,
-    }
-}
-
-pub(crate) fn with_row(frontier: CausalFrontier, row: Row) -> CausalFrontier
-    ensures { result ≡ with_cut frontier row.entries }
-{
-    let mut r = frontier;
-    r.row = row;
-    r
-}
-
+// kept: methods of two lines beside those of Version; one trait over both is no plainer, since a version is asked whether its origin fits, too.
 impl CausalFrontier {
     // A frontier of zeros.
-    pub fn new(members: usize) -> FrontierAnswer
+    pub fn new(members: usize) -> Result<CausalFrontier, Refusal>
         ensures { result ≡ new_frontier members }
     {
+        fit(members, members, 0, 0)?;
         let row = Row::zeros();
-        match fit(members, members, 0, 0) {
-            Outcome::Refused(why) => kept(CausalFrontier { members: 0, row }, why),
-            Outcome::Done => done(CausalFrontier { members, row }),
-        }
+        Ok(CausalFrontier { members, row })
     }
 
     // The entry at a place.
-    pub fn seq_by_idx(self, idx: ReplicaIdx) -> SeqRead
-        ensures { result ≡ cut_seq self idx.0 }
+    pub fn seq_by_idx(&self, idx: ReplicaIdx) -> Result<u32, Refusal>
+        ensures { result ≡ cut_seq self.now idx.0 }
     {
-        match fit(self.members, self.members, idx.0, idx.0) {
-            Outcome::Refused(why) => SeqRead::Refused(why),
-            Outcome::Done => {
-                let row = self.row;
-                SeqRead::Seq(row.get(idx))
-            }
-        }
+        fit(self.members, self.members, idx.0, idx.0)?;
+        Ok(self.row.get(idx))
     }
 
-    // The frontier with another entry at a place.
-    pub fn set_by_idx(self, idx: ReplicaIdx, value: u32) -> FrontierAnswer
-        ensures { result ≡ cut_set self idx.0 value }
+    // Another entry at a place.
+    pub fn set_by_idx(&mut self, idx: ReplicaIdx, value: u32) -> Result<(), Refusal>
+        ensures { Becomes self.old self.new result (cut_set self.old idx.0 value) }
     {
-        match fit(self.members, self.members, idx.0, idx.0) {
-            Outcome::Refused(why) => kept(self, why),
-            Outcome::Done => {
-                let row = self.row;
-                done(with_row(self, row.set(idx, value)))
-            }
-        }
+        fit(self.members, self.members, idx.0, idx.0)?;
+        self.row = self.row.set(idx, value);
+        Ok(())
     }
 
     // All entries added up.
-    pub fn sum(self) -> Summed
-        ensures { result ≡ cut_sum self }
+    pub fn sum(&self) -> Result<u64, Refusal>
+        ensures { result ≡ cut_sum self.now }
     {
-        match fit(self.members, self.members, 0, 0) {
-            Outcome::Refused(why) => Summed::Refused(why),
-            Outcome::Done => {
-                let row = self.row;
-                Summed::Sum(row.sum(self.members))
-            }
-        }
+        fit(self.members, self.members, 0, 0)?;
+        Ok(self.row.sum(self.members))
     }
 
     // The larger of an event's version and ours, entry by entry.
-    pub fn join_version(self, version: Version) -> FrontierAnswer
-        ensures { result ≡ cut_join_version self version }
+    pub fn join_version(&mut self, version: &Version) -> Result<(), Refusal>
+        ensures { Becomes self.old self.new result (cut_join_version self.old version.now) }
     {
-        match fit(
+        fit(
             self.members,
             version.members,
             version.origin.0,
             version.origin.0,
-        ) {
-            Outcome::Refused(why) => kept(self, why),
-            Outcome::Done => {
-                let row = self.row;
-                let other = version.row;
-                done(with_row(self, row.join(other, self.members)))
-            }
-        }
+        )?;
+        self.row = self.row.join(version.row, self.members);
+        Ok(())
     }
 
     // The larger, entry by entry.
-    pub fn join(self, other: CausalFrontier) -> FrontierAnswer
-        ensures { result ≡ cut_join self other }
+    pub fn join(&mut self, other: &CausalFrontier) -> Result<(), Refusal>
+        ensures { Becomes self.old self.new result (cut_join self.old other.now) }
     {
-        match fit(self.members, other.members, 0, 0) {
-            Outcome::Refused(why) => kept(self, why),
-            Outcome::Done => {
-                let row = self.row;
-                let other_row = other.row;
-                done(with_row(self, row.join(other_row, self.members)))
-            }
-        }
+        fit(self.members, other.members, 0, 0)?;
+        self.row = self.row.join(other.row, self.members);
+        Ok(())
     }
 
     // The smaller, entry by entry.
-    pub fn meet(self, other: CausalFrontier) -> FrontierAnswer
-        ensures { result ≡ cut_meet self other }
+    pub fn meet(&mut self, other: &CausalFrontier) -> Result<(), Refusal>
+        ensures { Becomes self.old self.new result (cut_meet self.old other.now) }
     {
-        match fit(self.members, other.members, 0, 0) {
-            Outcome::Refused(why) => kept(self, why),
-            Outcome::Done => {
-                let row = self.row;
-                let other_row = other.row;
-                done(with_row(self, row.meet(other_row, self.members)))
-            }
-        }
+        fit(self.members, other.members, 0, 0)?;
+        self.row = self.row.meet(other.row, self.members);
+        Ok(())
     }
 
     // Whether the entry at the id's place is at least its number.
-    pub fn contains(self, id: EventId) -> Tested
-        ensures { result ≡ contains_of self id }
+    pub fn contains(&self, id: EventId) -> Result<bool, Refusal>
+        ensures { result ≡ contains_of self.now id }
     {
-        let idx = id.idx;
-        match fit(self.members, self.members, idx.0, idx.0) {
-            Outcome::Refused(why) => Tested::Refused(why),
-            Outcome::Done => {
-                let row = self.row;
-                Tested::Is(id.seq <= row.get(idx))
-            }
-        }
+        Ok(id.seq <= self.seq_by_idx(id.idx)?)
     }
 
     // Entry by entry.
-    pub fn compare(self, other: CausalFrontier) -> Compared
-        ensures { result ≡ cut_compare self other }
+    pub fn compare(&self, other: &CausalFrontier) -> Result<Option<Ordering>, Refusal>
+        ensures { result ≡ cut_compare self.now other.now }
     {
-        match fit(self.members, other.members, 0, 0) {
-            Outcome::Refused(why) => Compared::Refused(why),
-            Outcome::Done => {
-                let row = self.row;
-                let other_row = other.row;
-                Compared::Is(row.compare(other_row, self.members))
-            }
-        }
-    }
-
-    // Whether list and entries are the same.
-    pub fn eq(self, other: CausalFrontier) -> bool
-        ensures { result ≡ same_frontier self other }
-    {
-        if self.members != other.members {
-            return false;
-        }
-        let row = self.row;
-        let other_row = other.row;
-        row.eq(other_row, self.members)
+        fit(self.members, other.members, 0, 0)?;
+        Ok(self.row.compare(other.row, self.members))
     }
 
     // A version's entries.
-    pub fn from_version(version: Version) -> FrontierAnswer
-        ensures { result ≡ frontier_from version }
+    pub fn from_version(version: &Version) -> Result<CausalFrontier, Refusal>
+        ensures { result ≡ frontier_from version.now }
     {
-        match fit(
-            version.members,
-            version.members,
-            version.origin.0,
-            version.origin.0,
-        ) {
-            Outcome::Refused(why) => {
-                let row = Row::zeros();
-                kept(CausalFrontier { members: 0, row }, why)
-            }
-            Outcome::Done => {
-                let row = version.row;
-                done(CausalFrontier {
-                    members: version.members,
-                    row,
-                })
-            }
-        }
+        let members = version.members;
+        fit(members, members, version.origin.0, version.origin.0)?;
+        Ok(CausalFrontier {
+            members,
+            row: version.row,
+        })
     }
+}
+
+// Same list, same entries of its members.
+impl PartialEq for CausalFrontier {
+    ghost eq = { same_frontier };
+
+    ghost laws = { same_frontier_per };
+
+    fn eq(&self, other: &CausalFrontier) -> bool {
+        self.members == other.members && self.row.eq(other.row, self.members)
+    }
+}
+
+impl Eq for CausalFrontier {
+    ghost laws = { same_frontier_equiv };
 }

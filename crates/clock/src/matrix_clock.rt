@@ -1,16 +1,17 @@
 // One row per member, each row one entry per member: what we know of what each member has.
-ghost use Rattle.std.specs.Prelude.{◌≡◌, cond, ◌≤◌, min};
+ghost use Rattle.std.specs.Prelude.{◌≡◌, cond};
 ghost use Rattle.lists.specs.Lists.{over, all};
+ghost use Rattle.clock.specs.Becomes.{Becomes, BecomesWith};
 ghost use Rattle.clock.specs.Entries.{zero_entries, at_most};
-ghost use Rattle.clock.specs.Matrix.{row_of, cell, with_row_at, fits_update, new_matrix, version_at, set_row, no_columns, raised_of, set_row_incremental, settled, settled_cut, column_wise_min, valid_of, same_rows, same_matrix, zero_matrix, kept_matrix, done_matrix};
+ghost use Rattle.clock.specs.Matrix.{row_of, cell, with_row_at, fits_update, new_matrix, version_at, set_row, no_columns, raised_of, set_row_incremental, settled, settled_cut, column_wise_min, valid_of, same_rows, same_matrix};
+ghost use Rattle.clock.specs.Sameness.{same_matrix_equiv, same_matrix_per};
 
-use crate::causal_frontier::{CausalFrontier, FrontierAnswer};
-use crate::id::{ReplicaIdx, Tested};
-use crate::version_vector::{MEMBERS, Row, Version, VersionAnswer, clamp, fit, pick};
-use crate::{causal_frontier, version_vector};
-use refusal::{Outcome, Refusal};
+use crate::causal_frontier::CausalFrontier;
+use crate::id::ReplicaIdx;
+use crate::version_vector::{MEMBERS, Row, Version, fit};
+use refusal::Refusal;
 
-#[derive(Clone, Copy)]
+#[derive(Clone, Copy, Debug)]
 pub struct MatrixClock {
     pub members: usize,
     pub origin: ReplicaIdx,
@@ -18,29 +19,14 @@ pub struct MatrixClock {
 }
 
 // The columns that the last delivery raised: the list of document 01, a mark for each place.
-#[derive(Clone, Copy)]
+#[derive(Clone, Copy, Debug, PartialEq, Eq)]
 pub struct Columns {
     pub raised: [bool; 16],
 }
 
-// A matrix that a call gives; where it is refused, the one that it was given.
-#[derive(Clone, Copy)]
-pub struct MatrixAnswer {
-    pub outcome: Outcome,
-    pub matrix: MatrixClock,
-}
-
-// The same with the columns that were raised; none where it is refused.
-#[derive(Clone, Copy)]
-pub struct Raised {
-    pub outcome: Outcome,
-    pub matrix: MatrixClock,
-    pub columns: Columns,
-}
-
 impl Columns {
     // No column is raised.
-    pub(crate) fn none() -> Columns
+    pub fn none() -> Columns
         ensures { result.raised ≡ no_columns }
     {
         Columns {
@@ -51,309 +37,215 @@ impl Columns {
 
 // The columns in which a version is above a row.
 fn raised_columns(row: Row, version: Row, members: usize) -> Columns
-    requires { members ≤ 16 }
     ensures { result.raised ≡ raised_of members row.entries version.entries }
 {
+    let n = members.min(MEMBERS);
     let mut r = Columns::none();
-    let mut j: usize = 0;
-    while j < members {
-        let up = row.entries[j] < version.entries[j];
-        r.raised[j] = up;
-        j += 1;
+    for j in 0..n {
+        r.raised[j] = row.entries[j] < version.entries[j];
     }
     r
 }
 
 impl MatrixClock {
     // A matrix of zeros; `origin` is our own place.
-    pub fn new(origin: ReplicaIdx, members: usize) -> MatrixAnswer
+    pub fn new(origin: ReplicaIdx, members: usize) -> Result<MatrixClock, Refusal>
         ensures { result ≡ new_matrix origin.0 members }
     {
-        match fit(members, members, origin.0, origin.0) {
-            Outcome::Refused(why) => kept(zero_matrix(ReplicaIdx(0), 0), why),
-            Outcome::Done => done(zero_matrix(origin, members)),
-        }
+        fit(members, members, origin.0, origin.0)?;
+        let row = Row::zeros();
+        Ok(MatrixClock {
+            members,
+            origin,
+            rows: [row; 16],
+        })
     }
 
     // The row at a place, and zeros where there is none.
-    pub fn row(self, idx: ReplicaIdx) -> Row
-        ensures { result.entries ≡ row_of self.rows idx.0 }
+    pub fn row(&self, idx: ReplicaIdx) -> Row
+        ensures { result.entries ≡ row_of self.now.rows idx.0 }
     {
-        let i = idx.0;
-        if i < MEMBERS {
-            self.rows[i]
-        } else {
-            Row::zeros()
-        }
+        self.rows.get(idx.0).copied().unwrap_or(Row::zeros())
     }
 
-    // The matrix with another row at a place; unchanged where there is none.
-    pub fn with_row(mut self, idx: ReplicaIdx, row: Row) -> MatrixClock
-        ensures { result ≡ with_row_at self idx.0 row.entries }
+    // Another row at a place; unchanged where there is none.
+    pub fn put_row(&mut self, idx: ReplicaIdx, row: Row)
+        ensures { self.new ≡ with_row_at self.old idx.0 row.entries }
     {
         let at = idx.0;
         if at < MEMBERS {
             self.rows[at] = row;
         }
-        self
     }
 
     // The version of the member at a place.
-    pub fn version_by_idx(self, idx: ReplicaIdx) -> VersionAnswer
-        ensures { result ≡ version_at self idx.0 }
+    pub fn version_by_idx(&self, idx: ReplicaIdx) -> Result<Version, Refusal>
+        ensures { result ≡ version_at self.now idx.0 }
     {
-        match fit(self.members, self.members, self.origin.0, idx.0) {
-            Outcome::Refused(why) => Version::refused(why),
-            Outcome::Done => {
-                let row = self.row(idx);
-                version_vector::done(Version {
-                    members: self.members,
-                    origin: idx,
-                    row,
-                })
-            }
-        }
+        fit(self.members, self.members, self.origin.0, idx.0)?;
+        Ok(Version {
+            members: self.members,
+            origin: idx,
+            row: self.row(idx),
+        })
     }
 
     // Our own version.
-    pub fn origin_version(self) -> VersionAnswer
-        ensures { result ≡ version_at self self.origin.0 }
+    pub fn origin_version(&self) -> Result<Version, Refusal>
+        ensures { result ≡ version_at self.now self.now.origin.0 }
     {
         self.version_by_idx(self.origin)
     }
 
-    // The matrix with a version as the row at a place.
-    pub fn set_by_idx(self, idx: ReplicaIdx, version: Version) -> MatrixAnswer
-        ensures { result ≡ set_row self idx.0 version }
+    // A version as the row at a place.
+    pub fn set_by_idx(&mut self, idx: ReplicaIdx, version: &Version) -> Result<(), Refusal>
+        ensures { Becomes self.old self.new result (set_row self.old idx.0 version.now) }
     {
-        match fit_update(self, idx, version) {
-            Outcome::Refused(why) => kept(self, why),
-            Outcome::Done => {
-                let row = version.row;
-                done(self.with_row(idx, row))
-            }
-        }
+        self.fit_update(idx, version)?;
+        self.put_row(idx, version.row);
+        Ok(())
     }
 
-    // The row at a place takes every larger entry of a version; those columns are answered too.
-    pub fn set_by_idx_incremental(self, idx: ReplicaIdx, version: Version) -> Raised
-        ensures { result ≡ set_row_incremental self idx.0 version }
+    // The row at a place takes every larger entry of a version; those columns are answered.
+    pub fn set_by_idx_incremental(
+        &mut self,
+        idx: ReplicaIdx,
+        version: &Version,
+    ) -> Result<Columns, Refusal>
+        ensures { BecomesWith self.old self.new result (set_row_incremental self.old idx.0 version.now) }
     {
-        match fit_update(self, idx, version) {
-            Outcome::Refused(why) => {
-                let outcome = Outcome::Refused(why);
-                Raised {
-                    outcome,
-                    matrix: self,
-                    columns: Columns::none(),
-                }
-            }
-            Outcome::Done => {
-                let row = self.row(idx);
-                let other = version.row;
-                let columns = raised_columns(row, other, self.members);
-                let matrix = self.with_row(idx, row.join(other, self.members));
-                Raised {
-                    outcome: Outcome::Done,
-                    matrix,
-                    columns,
-                }
-            }
-        }
+        self.fit_update(idx, version)?;
+        let row = self.row(idx);
+        self.put_row(idx, row.join(version.row, self.members));
+        Ok(raised_columns(row, version.row, self.members))
     }
 
     // For each raised column: if a row holds exactly the frontier's entry it stays, else it becomes the least of the column.
     pub fn column_wise_min_incremental(
-        self,
-        last: CausalFrontier,
+        &self,
+        last: &CausalFrontier,
         columns: Columns,
-    ) -> FrontierAnswer
-        ensures { result ≡ column_wise_min self last columns }
+    ) -> Result<CausalFrontier, Refusal>
+        ensures { result ≡ column_wise_min self.now last.now columns }
     {
-        match fit(self.members, last.members, self.origin.0, self.origin.0) {
-            Outcome::Refused(why) => causal_frontier::kept(last, why),
-            Outcome::Done => {
-                let cut = last.row;
-                let row = settled_cut(self, cut, columns);
-                causal_frontier::done(causal_frontier::with_row(last, row))
-            }
-        }
+        fit(self.members, last.members, self.origin.0, self.origin.0)?;
+        Ok(CausalFrontier {
+            members: last.members,
+            row: self.settled_cut(last.row, columns),
+        })
     }
 
     // Whether no row i has entry j above row j's entry j, and our own row is entrywise the largest.
-    pub fn is_valid(self) -> Tested
-        ensures { result ≡ valid_of self }
+    pub fn is_valid(&self) -> Result<bool, Refusal>
+        ensures { result ≡ valid_of self.now }
     {
-        match fit(self.members, self.members, self.origin.0, self.origin.0) {
-            Outcome::Refused(why) => Tested::Refused(why),
-            Outcome::Done => {
-                if rows_at_most(self, diagonal_row(self)) {
-                    let own = self.row(self.origin);
-                    Tested::Is(rows_at_most(self, own))
-                } else {
-                    Tested::Is(false)
-                }
-            }
-        }
+        fit(self.members, self.members, self.origin.0, self.origin.0)?;
+        Ok(self.rows_at_most(self.diagonal_row()) && self.rows_at_most(self.row(self.origin)))
     }
 
-    // Whether list, origin and rows are the same.
-    pub fn eq(self, other: MatrixClock) -> bool
-        ensures { result ≡ same_matrix self other }
+    // Whether a version can be set as the row at a place.
+    fn fit_update(&self, idx: ReplicaIdx, version: &Version) -> Result<(), Refusal>
+        ensures { result ≡ fits_update self.now idx.0 version.now }
     {
-        if self.members != other.members {
-            return false;
-        }
-        if self.origin.0 != other.origin.0 {
-            return false;
-        }
-        same_rows(self, other)
-    }
-}
-
-fn zero_matrix(origin: ReplicaIdx, members: usize) -> MatrixClock
-    ensures { result ≡ zero_matrix origin.0 members }
-{
-    let row = Row::zeros();
-    MatrixClock {
-        members,
-        origin,
-        rows: [row; 16],
-    }
-}
-
-fn kept(matrix: MatrixClock, why: Refusal) -> MatrixAnswer
-    ensures { result ≡ kept_matrix matrix why }
-{
-    let outcome = Outcome::Refused(why);
-    MatrixAnswer { outcome, matrix }
-}
-
-fn done(matrix: MatrixClock) -> MatrixAnswer
-    ensures { result ≡ done_matrix matrix }
-{
-    MatrixAnswer {
-        outcome: Outcome::Done,
-        matrix,
-    }
-}
-
-// Whether a version can be set as the row at a place.
-fn fit_update(m: MatrixClock, idx: ReplicaIdx, version: Version) -> Outcome
-    ensures { result ≡ fits_update m idx.0 version }
-{
-    match fit(m.members, version.members, m.origin.0, idx.0) {
-        Outcome::Refused(why) => Outcome::Refused(why),
-        Outcome::Done => fit(
-            m.members,
+        fit(self.members, version.members, self.origin.0, idx.0)?;
+        fit(
+            self.members,
             version.members,
             version.origin.0,
             version.origin.0,
-        ),
+        )
     }
-}
 
-// Entry j of row i.
-fn cell_at(m: MatrixClock, i: usize, j: usize) -> u32
-    ensures { result ≡ cell m.rows i j }
-{
-    let row = m.row(ReplicaIdx(i));
-    row.get(ReplicaIdx(j))
-}
+    // Entry j of row i.
+    fn cell(&self, i: usize, j: usize) -> u32
+        ensures { result ≡ cell self.now.rows i j }
+    {
+        self.row(ReplicaIdx(i)).get(ReplicaIdx(j))
+    }
 
-// What a raised column's entry becomes.
-fn settled_entry(m: MatrixClock, j: usize, last: u32) -> u32
-    requires { m.members ≤ 16 }
-    ensures { result ≡ settled m.rows m.members j last }
-{
-    let n = m.members;
-    let mut low = cell_at(m, 0, j);
-    let mut i: usize = 0;
-    while i < n {
-        let seq = cell_at(m, i, j);
-        i += 1;
-        if seq == last {
-            return last;
+    // What a raised column's entry becomes.
+    fn settled_entry(&self, j: usize, last: u32) -> u32
+        ensures { result ≡ settled self.now.rows self.now.members j last }
+    {
+        let mut low = self.cell(0, j);
+        for i in 0..self.members {
+            let seq = self.cell(i, j);
+            if seq == last {
+                return last;
+            }
+            low = low.min(seq);
         }
-        low = pick(false, low, seq);
+        low
     }
-    low
-}
 
-// What a column's entry becomes; one that is not raised stays.
-fn column_entry(m: MatrixClock, raised: bool, j: usize, last: u32) -> u32
-    requires { m.members ≤ 16 }
-    ensures { result ≡ cond raised (settled m.rows m.members j last) last }
-{
-    if raised {
-        settled_entry(m, j, last)
-    } else {
-        last
-    }
-}
-
-// The frontier's entries, column by column.
-fn settled_cut(m: MatrixClock, cut: Row, columns: Columns) -> Row
-    requires { m.members ≤ 16 }
-    ensures { result.entries ≡ settled_cut m.rows m.members columns.raised cut.entries }
-{
-    let n = m.members;
-    let mut r = cut;
-    let mut j: usize = 0;
-    while j < n {
-        let v = column_entry(m, columns.raised[j], j, cut.entries[j]);
-        r.entries[j] = v;
-        j += 1;
-    }
-    r
-}
-
-// Each row's entry at its own place.
-fn diagonal_row(m: MatrixClock) -> Row
-    requires { m.members ≤ 16 }
-    ensures { result.entries ≡ over 0 m.members (λ j. cell m.rows j j) zero_entries }
-{
-    let n = m.members;
-    let mut r = Row::zeros();
-    let mut j: usize = 0;
-    while j < n {
-        let v = cell_at(m, j, j);
-        r.entries[j] = v;
-        j += 1;
-    }
-    r
-}
-
-// Whether no row is above another row in any entry.
-fn rows_at_most(m: MatrixClock, top: Row) -> bool
-    requires { m.members ≤ 16 }
-    ensures { result ≡ all m.members (λ i. at_most m.members (row_of m.rows i) top.entries) }
-{
-    let n = m.members;
-    let mut i: usize = 0;
-    while i < n {
-        let row = m.row(ReplicaIdx(i));
-        i += 1;
-        if !row.at_most(top, n) {
-            return false;
+    // What a column's entry becomes; one that is not raised stays.
+    fn column_entry(&self, raised: bool, j: usize, last: u32) -> u32
+        ensures { result ≡ cond raised (settled self.now.rows self.now.members j last) last }
+    {
+        if raised {
+            self.settled_entry(j, last)
+        } else {
+            last
         }
     }
-    true
+
+    // The frontier's entries, column by column.
+    fn settled_cut(&self, cut: Row, columns: Columns) -> Row
+        ensures { result.entries ≡ settled_cut self.now.rows self.now.members columns.raised cut.entries }
+    {
+        let n = self.members.min(MEMBERS);
+        let mut r = cut;
+        for j in 0..n {
+            r.entries[j] = self.column_entry(columns.raised[j], j, cut.entries[j]);
+        }
+        r
+    }
+
+    // Each row's entry at its own place.
+    fn diagonal_row(&self) -> Row
+        ensures { result.entries ≡ over 0 self.now.members (λ j. cell self.now.rows j j) zero_entries }
+    {
+        let n = self.members.min(MEMBERS);
+        let mut r = Row::zeros();
+        for j in 0..n {
+            r.entries[j] = self.cell(j, j);
+        }
+        r
+    }
+
+    // Whether no row is above another row in any entry.
+    fn rows_at_most(&self, top: Row) -> bool
+        ensures { result ≡ all self.now.members (λ i. at_most self.now.members (row_of self.now.rows i) top.entries) }
+    {
+        self.rows
+            .iter()
+            .take(self.members)
+            .all(|row| row.at_most(top, self.members))
+    }
+
+    // Whether the rows of the members are the same.
+    fn same_rows(&self, other: &MatrixClock) -> bool
+        ensures { result ≡ same_rows self.now.members self.now.rows other.now.rows }
+    {
+        self.rows
+            .iter()
+            .zip(&other.rows)
+            .take(self.members)
+            .all(|(row, other)| row.eq(*other, self.members))
+    }
 }
 
-fn same_rows(a: MatrixClock, b: MatrixClock) -> bool
-    ensures { result ≡ same_rows a.members a.rows b.rows }
-{
-    let members = a.members;
-    let n = clamp(members);
-    let mut i: usize = 0;
-    while i < n {
-        let row = a.row(ReplicaIdx(i));
-        let other = b.row(ReplicaIdx(i));
-        i += 1;
-        if !row.eq(other, members) {
-            return false;
-        }
+// Same list, same origin, same rows.
+impl PartialEq for MatrixClock {
+    ghost eq = { same_matrix };
+
+    ghost laws = { same_matrix_per };
+
+    fn eq(&self, other: &MatrixClock) -> bool {
+        self.members == other.members && self.origin == other.origin && self.same_rows(other)
     }
-    true
+}
+
+impl Eq for MatrixClock {
+    ghost laws = { same_matrix_equiv };
 }

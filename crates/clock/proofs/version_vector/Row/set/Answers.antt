@@ -5,5 +5,5 @@ use lib.Seq.{set_out}
 use borrow.Author.Rules.{rules}
 use Rattle.clock.proofs.version_vector.Row.set.Goals as goal
 
-pub returns-else-i-lt-MEMBERS : goal.returns-else-i-lt-MEMBERS
-returns-else-i-lt-MEMBERS c = let e : length c.args.self.entries ≡ 16 = search rules in sym (set_out c.args.self.entries c.args.idx.0 c.args.value (omega arith))
+pub returns-else-at-lt-MEMBERS : goal.returns-else-at-lt-MEMBERS
+returns-else-at-lt-MEMBERS c = let e : length c.args.self.entries ≡ 16 = search rules in sym (set_out c.args.self.entries c.args.idx.0 c.args.value (omega arith))

@@ -1,7 +1,0 @@
-use Rattle.clock.proofs.causal_frontier.CausalFrontier.join.Goals as goal
-
-pub returns-in-Refused : goal.returns-in-Refused
-returns-in-Refused c = rw (c.kept.ensures, ← c.fit.ensures, c.in-Refused.is)
-
-pub returns-in-Done : goal.returns-in-Done
-returns-in-Done c = rw (c.done.ensures, c.with_row.ensures, c.join.ensures, ← c.fit.ensures, c.in-Done.is)
