@@ -14,9 +14,9 @@ use Rattle.lists.proofs.Cases.{split}
 use Rattle.lists.specs.Lists.{joined}
 use Rattle.lists.proofs.Joined.{Each, each_at, each_none, each_more, joined-map, chain-joined}
 use Rattle.lists.proofs.Stands.{Stands, stand_none, stand_part, stand_join, stand_only}
-use Rattle.leb128.specs.Leb128.{spell, last_number, read_at}
+use Rattle.leb128.specs.Leb128.{Read, got, spell, last_number}
 use Rattle.leb128.proofs.Spelling.{Bytes, only_spelling, width_range}
-use Rattle.telegram.specs.Fields.{Got, got, number, kind, counted, placed, part, sized, text, many}
+use Rattle.telegram.specs.Fields.{number, kind, counted, placed, part, sized, text, many}
 use Rattle.telegram.specs.Reading.{nowhere, filled, names, list, entries, body, head, exception, texts, fair}
 use Rattle.telegram.specs.Meaning.{body_of, heading_of, sized_bytes, list_bytes, version_bytes, body_bytes, head_bytes, exception_bytes, GoodList, GoodVersion, GoodBody, GoodException}
 use Rattle.telegram.specs.declared.field.Part.{Part}
@@ -26,7 +26,7 @@ use Rattle.telegram.specs.declared.head.Head.{Head}
 use Rattle.telegram.specs.declared.since.Exception.{Exception}
 use Rattle.telegram.proofs.Parts.{PartIs, ListIs, length-text, length_name}
 use Rattle.telegram.proofs.Filled.{take-filled, count-texts, texts_named}
-use Rattle.telegram.proofs.Steps.{number_told_lem, got_carry, after_is, if_got, judged-is}
+use Rattle.telegram.proofs.Steps.{got_carry, after_is, if_got, judged-is}
 
 -- a thing's bytes stand from a place to the next, and it is as it should be
 pub record Said {A : Type 0} (s : List ℕ) (bytes : A → List ℕ) (Fit : A → Type 0) (at : ℕ) (a : A) (next : ℕ) : Type 0 where
@@ -74,7 +74,7 @@ record HeadStands (s : List ℕ) (k : ℕ) (h : Head) (next : ℕ) : Type 0 wher
   stands : (count end : ℕ) → Stands s next (spell count) end → Stands s 0 (head_bytes k (heading_of s h) count) end
 
 -- a head, a count up to its limit, and so many things with nothing behind them
-pub record Carries (s : List ℕ) {A : Type 0} (k limit : ℕ) (f : ℕ → ℕ → Got A) (spelt : ℕ → A → List ℕ) (Fit : ℕ → A → Type 0) (h : Head) (count start : ℕ) : Type 0 where
+pub record Carries (s : List ℕ) {A : Type 0} (k limit : ℕ) (f : ℕ → ℕ → Read A) (spelt : ℕ → A → List ℕ) (Fit : ℕ → A → Type 0) (h : Head) (count start : ℕ) : Type 0 where
   pub items : List A
   pub reads : many count (f h.names.count) start ≡ got items (length s)
   pub counted : length items ≡ count
@@ -87,9 +87,8 @@ module _ {s : List ℕ} (bytes : Bytes s) where
   -- ---- numbers
 
   number_is : (at n next : ℕ) → number s at ≡ got n next → Said s spell (λ n. n ≤ last_number) at n next
-  unfolding number
   number_is at n next e =
-      let r = only_spelling s at n next bytes (number_told_lem (read_at s at) n next e) in
+      let r = only_spelling s at n next bytes e in
       let d : next - at ≡ length (spell n) = omega (arith, r.behind) in
       let b = rw d at r.bytes in
       record {
@@ -143,7 +142,7 @@ module _ {s : List ℕ} (bytes : Bytes s) where
 
   -- ---- several things
 
-  many_is : {A : Type 0} (f : ℕ → Got A) (spelt : A → List ℕ) (Fit : A → Type 0) → ((at : ℕ) (a : A) (next : ℕ) → f at ≡ got a next → Said s spelt Fit at a next)
+  many_is : {A : Type 0} (f : ℕ → Read A) (spelt : A → List ℕ) (Fit : A → Type 0) → ((at : ℕ) (a : A) (next : ℕ) → f at ≡ got a next → Said s spelt Fit at a next)
       → (k at : ℕ) (l : List A) (next : ℕ) → at ≤ length s → many k f at ≡ got l next → SaidAll s spelt Fit k at l next
   unfolding many joined
   many_is f spelt Fit each zero at l next h e = got_carry (SaidAll s spelt Fit zero at) e (record { count = refl; stands = stand_none h; fit = each_none Fit })
@@ -249,7 +248,7 @@ module _ {s : List ℕ} (bytes : Bytes s) where
         stands = λ count end q. stand_join (kind-is k 0 _ a ek) (stand_join n.stands (stand_join p.stands (stand_join v.stands q)));
       })))))
 
-  pub carries : {A : Type 0} (k limit : ℕ) (f : ℕ → ℕ → Got A) (spelt : ℕ → A → List ℕ) (Fit : ℕ → A → Type 0)
+  pub carries : {A : Type 0} (k limit : ℕ) (f : ℕ → ℕ → Read A) (spelt : ℕ → A → List ℕ) (Fit : ℕ → A → Type 0)
       → ((count : ℕ) → count ≤ 16 → (at : ℕ) (a : A) (next : ℕ) → f count at ≡ got a next → Said s (spelt count) (Fit count) at a next)
       → (h : Head) (mid count start : ℕ) (items : List A) → head k s ≡ got h mid → counted 0 limit s mid ≡ got count start
       → many count (f h.names.count) start ≡ got items (length s) → Carries s k limit f spelt Fit h count start

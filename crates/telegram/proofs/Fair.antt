@@ -1,16 +1,18 @@
--- The names of a list as parts of the bytes, tested byte by byte. Assumes nothing.
-use Prim.Native.Nat.{ℕ, ◌+◌, ◌<◌, ◌≤◌}
+-- The names of a list as parts of the bytes, and what the tests of them answer. Assumes nothing.
+use Prim.Native.Nat.{ℕ, zero, suc, ◌+◌, ◌<◌, ◌≤◌}
 use native.Mathlib.Omega.{arith}
-use mathlib.Core.Path.{◌≡◌, refl, ap, ◌∙◌}
-use mathlib.Core.Bool.{Bool, false, not, ◌&&◌}
-use mathlib.Core.List.{List, []}
-use lib.ListN.{length, get_or, drop}
-use lib.Seq.{get_or-take, get_or-drop}
+use mathlib.Core.Path.{◌≡◌, refl, sym, ap, ◌∙◌}
+use mathlib.Core.Bool.{Bool, true, false, not, ◌&&◌}
+use mathlib.Core.List.{List, [], ◌∷◌}
+use lib.ListN.{length, get_or, take, drop}
+use lib.Seq.{length-take-le, get_or-take, get_or-drop}
 use lib.Dec.{leb, eqb}
-use borrow.Author.Tests.{eq-eqb, ne_eqb}
+use borrow.Author.Tests.{eq-eqb, ne_eqb, eqb-true, eqb-false}
+use Rattle.std.specs.List.{list_all, range_with_len}
+use Rattle.std.specs.Cmp.Lexicographic.{pointwise}
 use Rattle.lists.specs.Lists.{at, all}
 use Rattle.lists.proofs.Laws.{all_same}
-use Rattle.telegram.proofs.Parts.{length-text, texts-at}
+use Rattle.telegram.proofs.Parts.{texts-at}
 use Rattle.telegram.proofs.Filled.{count-texts}
 use Rattle.telegram.specs.declared.field.Part.{Part}
 use Rattle.telegram.specs.declared.list.Names.{Names}
@@ -22,27 +24,63 @@ use Rattle.telegram.specs.Reading.{nowhere, texts, fair_bytes, same_bytes, fair_
 pub text_at : (s : List ℕ) (p : Part) (k : ℕ) → k < p.len → at (text s p) k ≡ at s (p.start + k)
 text_at s p k h = get_or-take p.len (drop p.start s) k 0 h ∙ get_or-drop p.start s k 0
 
-abbrev pub fair_byte : List ℕ → ℕ → ℕ → Bool
-fair_byte s from k = leb 33 (at s (from + k)) && leb (at s (from + k)) 126
+-- ---- a test of each element of a list, and of each place
 
-pub fair-text : (s : List ℕ) (p : Part) → p.start + p.len ≤ length s → fair_bytes (text s p) ≡ all p.len (fair_byte s p.start)
+all-first : (n : ℕ) (p : ℕ → Bool) → all (suc n) p ≡ (p 0 && all n (λ k. p (suc k)))
+unfolding all
+all-first zero p = pick (p 0)
+  where
+    pick : (t : Bool) → (true && t) ≡ (t && true)
+    pick true = refl
+    pick false = refl
+all-first (suc n) p = ap (λ (t : Bool). t && p (suc n)) (all-first n p) ∙ pick (p 0) (all n (λ k. p (suc k))) (p (suc n))
+  where
+    pick : (a b d : Bool) → ((a && b) && d) ≡ (a && (b && d))
+    pick true b d = refl
+    pick false b d = refl
+
+pub all-listed : {X : Type 0} (d : X) (p : X → Bool) (l : List X) → list_all p l ≡ all (length l) (λ k. p (get_or l k d))
+unfolding all
+all-listed d p [] = refl
+all-listed d p (x ∷ l) = ap (λ (t : Bool). p x && t) (all-listed d p l) ∙ sym (all-first (length l) (λ k. p (get_or (x ∷ l) k d)))
+
+-- a test of each of n numbers from a on
+all-ranged : (p : ℕ → Bool) (a n : ℕ) → list_all p (range_with_len a n) ≡ all n (λ k. p (a + k))
+unfolding all
+all-ranged p a zero = refl
+all-ranged p a (suc n) =
+    ap (λ (t : Bool). p a && t) (all-ranged p (a + 1) n ∙ all_same n (λ k. p (a + 1 + k)) (λ k. p (a + suc k)) (λ k lt. ap p (omega arith)))
+    ∙ (rw (all-first n (λ k. p (a + k))) (ap (λ (i : ℕ). p i && all n (λ k. p (a + suc k))) (omega arith)))
+
+pub all-counted : (p : ℕ → Bool) (n : ℕ) → list_all p (range_with_len 0 n) ≡ all n p
+all-counted p n = all-ranged p 0 n ∙ all_same n (λ k. p (0 + k)) p (λ k lt. ap p (omega arith))
+
+pub fair-listed : (t : List ℕ) → list_all (λ b. leb 33 b && leb b 126) t ≡ fair_bytes t
 unfolding fair_bytes
-fair-text s p h =
-    rw (length-text s p h) (all_same p.len (λ k. leb 33 (at (text s p) k) && leb (at (text s p) k) 126) (fair_byte s p.start) (λ k lt. rw (text_at s p k lt) refl))
+fair-listed t = all-listed 0 (λ b. leb 33 b && leb b 126) t
 
-abbrev pub same_byte : List ℕ → ℕ → List ℕ → ℕ → ℕ → Bool
-same_byte s from t to k = eqb (at s (from + k)) (at t (to + k))
+eqb-suc : (m n : ℕ) → eqb (suc m) (suc n) ≡ eqb m n
+eqb-suc m n = pick (eqb m n) refl
+  where
+    pick : (t : Bool) → eqb m n ≡ t → eqb (suc m) (suc n) ≡ t
+    pick true e = eq-eqb (suc m) (suc n) (ap suc (eqb-true m n e))
+    pick false e = ne_eqb (suc m) (suc n) (λ h. eqb-false m n e (omega arith))
 
-module _ (s : List ℕ) (a : Part) (t : List ℕ) (b : Part) (h : (a.start + a.len ≤ length s) × (b.start + b.len ≤ length t)) where
-  pub other_length : (a.len ≡ b.len → ⊥) → same_bytes (text s a) (text t b) ≡ false
-  unfolding same_bytes
-  other_length n = rw (length-text s a h.0, length-text t b h.1, ne_eqb a.len b.len n) refl
-
-  pub same_text : a.len ≡ b.len → same_bytes (text s a) (text t b) ≡ all a.len (same_byte s a.start t b.start)
-  unfolding same_bytes
-  same_text e =
-      rw (length-text s a h.0, length-text t b h.1, eq-eqb a.len b.len e)
-      (all_same a.len (λ k. eqb (at (text s a) k) (at (text t b) k)) (same_byte s a.start t b.start) (λ k lt. rw (text_at s a k lt, text_at t b k (omega arith)) refl))
+pub same-listed : (t u : List ℕ) → pointwise eqb t u ≡ same_bytes t u
+unfolding same_bytes all
+same-listed [] [] = refl
+same-listed [] (y ∷ u) = rw (ne_eqb 0 (suc (length u)) (λ e. omega arith)) refl
+same-listed (x ∷ t) [] = rw (ne_eqb (suc (length t)) 0 (λ e. omega arith)) refl
+same-listed (x ∷ t) (y ∷ u) =
+    rw (eqb-suc (length t) (length u))
+    (ap (λ (b : Bool). eqb x y && b) (same-listed t u)
+    ∙ (pick (eqb x y) (eqb (length t) (length u)) (all (length t) (λ k. eqb (at t k) (at u k)))
+    ∙ ap (λ (b : Bool). eqb (length t) (length u) && b) (sym (all-first (length t) (λ k. eqb (at (x ∷ t) k) (at (y ∷ u) k))))))
+  where
+    pick : (a b d : Bool) → (a && (b && d)) ≡ (b && (a && d))
+    pick true b d = refl
+    pick false true d = refl
+    pick false false d = refl
 
 -- ---- the names of a list
 
@@ -58,6 +96,18 @@ fair-at s l i h = rw (texts-at s l i h) (ap (λ (t : Bool). fair_bytes (text s (
     same : all i (λ j. not (same_bytes (get_or (texts s l) j []) (text s (get_or l.parts i nowhere)))) ≡ all i (λ j. not (same_at s l (get_or l.parts i nowhere) j))
     same = all_same i (λ j. not (same_bytes (get_or (texts s l) j []) (text s (get_or l.parts i nowhere)))) (λ j. not (same_at s l (get_or l.parts i nowhere) j))
         (λ j lt. rw (texts-at s l j (omega arith)) refl)
+
+-- no name before a fair one is the same
+pub fair-before : (s : List ℕ) (l : Names) (i : ℕ) → i < l.count → i ≤ length l.parts → true ≡ fair_bytes (text s (get_or l.parts i nowhere))
+    → list_all (λ p. not (same_bytes (text s p) (text s (get_or l.parts i nowhere)))) (take i l.parts) ≡ fair_at (texts s l) i
+fair-before s l i h m f =
+    let name : Part = get_or l.parts i nowhere in
+    let long : length (take i l.parts) ≡ i = length-take-le i l.parts m in
+    let test : ℕ → Bool = λ k. not (same_bytes (text s (get_or (take i l.parts) k nowhere)) (text s name)) in
+    let same : all (length (take i l.parts)) test ≡ all i (λ j. not (same_at s l name j)) =
+    rw long (all_same i test (λ j. not (same_at s l name j)) (λ j lt. rw (get_or-take i l.parts j nowhere lt) refl))
+    in
+    rw (fair-at s l i h, ← f) (all-listed nowhere (λ p. not (same_bytes (text s p) (text s name))) (take i l.parts) ∙ same)
 
 pub fair-all : (s : List ℕ) (l : Names) → fair (texts s l) ≡ all l.count (fair_at (texts s l))
 unfolding fair

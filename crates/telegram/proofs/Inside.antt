@@ -6,64 +6,57 @@ use mathlib.Core.Bool.{Bool, true, false, cond, ◌&&◌}
 use mathlib.Core.List.{List, ◌∷◌}
 use lib.ListN.{length, get_or}
 use lib.Dec.{leb, eqb}
-use borrow.Author.Tests.{leb-true, le-leb, lt-leb}
+use borrow.Author.Tests.{leb-true, le-leb}
 use Rattle.refusal.specs.declared.Refusal.{Refusal}
 use Rattle.refusal.specs.Refusal.{no}
-use Rattle.refusal.specs.declared.Outcome.TheVariants.{Done}
-use Rattle.leb128.specs.declared.NumberRead.{NumberRead}
-use Rattle.leb128.specs.declared.NumberRead.TheVariants as numberRead
-use Rattle.leb128.specs.Leb128.{read_at}
+use Rattle.std.specs.Prelude.{Ok, Err}
+use Rattle.leb128.specs.Leb128.{Read, got, read_at}
 use Rattle.leb128.proofs.Spelling.{read_inside}
 use Rattle.lists.proofs.Laws.{get_or-tab, and_both}
 use Rattle.telegram.specs.declared.field.Part.{Part}
-use Rattle.telegram.specs.declared.list.ListRead.{ListRead}
+use Rattle.telegram.specs.declared.list.Names.{Names}
 use Rattle.telegram.specs.declared.event.Event.{Event}
-use Rattle.telegram.specs.declared.event.EventRead.{EventRead}
 use Rattle.telegram.specs.declared.head.Head.{Head}
-use Rattle.telegram.specs.declared.head.HeadRead.{HeadRead}
+use Rattle.telegram.specs.declared.items.Items.{Items}
 use Rattle.telegram.specs.declared.batch.Batch.{Batch}
-use Rattle.telegram.specs.declared.batch.BatchRead.{BatchRead}
 use Rattle.telegram.specs.declared.since.Since.{Since}
-use Rattle.telegram.specs.declared.since.SinceRead.{SinceRead}
-use Rattle.telegram.specs.Fields.{Got, got, bad, after, number_told, number, kind, counted, placed, part, sized, many}
-use Rattle.telegram.specs.Reading.{nowhere, names_of, names, list, entries, body, Within, Whole, whole, refused, ended, head, event_form, batch_form, exception, since_form, list_read, head_read, event_read, batch_read, since_read}
-use Rattle.telegram.proofs.Told.{list-got, head-got, event-whole, batch-whole, since-whole}
+use Rattle.telegram.specs.Fields.{after, number, kind, counted, placed, part, sized, many}
+use Rattle.telegram.specs.Reading.{nowhere, names_of, names, list, entries, body, Within, Whole, ended, head, event_form, items_of, items_form, batch_of, batch_form, exception, since_of, since_form}
 
 -- ---- a fact of what a reading got and of the place behind it; where it got nothing, nothing is said
 
-abbrev pub Gives : {A : Type 0} → (A → ℕ → Type 0) → Got A → Type 0
-Gives P (got a next) = P a next
-Gives P (bad k) = Unit
+abbrev pub Gives : {A : Type 0} → (A → ℕ → Type 0) → Read A → Type 0
+Gives P (Ok g) = P g.value g.next
+Gives P (Err k) = Unit
 
-pub gave : {A : Type 0} (P : A → ℕ → Type 0) {g : Got A} {a : A} {next : ℕ} → g ≡ got a next → Gives P g → P a next
+pub gave : {A : Type 0} (P : A → ℕ → Type 0) {g : Read A} {a : A} {next : ℕ} → g ≡ got a next → Gives P g → P a next
 gave P e h = rw e at h
 
-gives_any : {A : Type 0} (g : Got A) → Gives (λ a next. Unit) g
-gives_any (got a next) = tt
-gives_any (bad k) = tt
+gives_any : {A : Type 0} (g : Read A) → Gives (λ a next. Unit) g
+gives_any (Ok g) = tt
+gives_any (Err k) = tt
 
-gives_after : {A B : Type 0} (Q : A → ℕ → Type 0) (P : B → ℕ → Type 0) (g : Got A) (f : A → ℕ → Got B) → Gives Q g
+gives_after : {A B : Type 0} (Q : A → ℕ → Type 0) (P : B → ℕ → Type 0) (g : Read A) (f : A → ℕ → Read B) → Gives Q g
     → ((a : A) (next : ℕ) → Q a next → Gives P (f a next)) → Gives P (after g f)
-gives_after Q P (got a next) f q h = h a next q
-gives_after Q P (bad k) f q h = tt
+gives_after Q P (Ok g) f q h = h g.value g.next q
+gives_after Q P (Err k) f q h = tt
 
 -- whatever was got first
-gives_then : {A B : Type 0} (P : B → ℕ → Type 0) (g : Got A) (f : A → ℕ → Got B) → ((a : A) (next : ℕ) → Gives P (f a next)) → Gives P (after g f)
+gives_then : {A B : Type 0} (P : B → ℕ → Type 0) (g : Read A) (f : A → ℕ → Read B) → ((a : A) (next : ℕ) → Gives P (f a next)) → Gives P (after g f)
 gives_then P g f h = gives_after (λ a next. Unit) P g f (gives_any g) (λ a next _. h a next)
 
-gives_if : {A : Type 0} (P : A → ℕ → Type 0) (t : Bool) (a : A) (next : ℕ) (k : Refusal) → (t ≡ true → P a next) → Gives P (cond t (got a next) (bad k))
+gives_if : {A : Type 0} (P : A → ℕ → Type 0) (t : Bool) (a : A) (next : ℕ) (k : Refusal) → (t ≡ true → P a next) → Gives P (cond t (got a next) (Err k))
 gives_if P true a next k h = h refl
 gives_if P false a next k h = tt
 
 -- ---- fields
 
 number_gives : (s : List ℕ) (at : ℕ) → Gives (λ n next. next ≤ length s) (number s at)
-unfolding number
 number_gives s at = pick (read_at s at) refl
   where
-    pick : (r : NumberRead) → read_at s at ≡ r → Gives (λ n next. next ≤ length s) (number_told r)
-    pick (numberRead.Value n next) e = read_inside s at n next e
-    pick (numberRead.Refused k) e = tt
+    pick : (r : Read ℕ) → read_at s at ≡ r → Gives (λ n next. next ≤ length s) r
+    pick (Ok g) e = read_inside s at g.value g.next e
+    pick (Err k) e = tt
 
 pub record Counted (low high : ℕ) (s : List ℕ) (n next : ℕ) : Type 0 where
   pub least : low ≤ n
@@ -79,10 +72,6 @@ counted_gives low high s at = gives_after (λ n next. next ≤ length s) (Counte
 pub counted_range : (low high : ℕ) (s : List ℕ) (at n next : ℕ) → counted low high s at ≡ got n next → Counted low high s n next
 counted_range low high s at n next e = gave (Counted low high s) e (counted_gives low high s at)
 
-pub part-short : (n : ℕ) (s : List ℕ) (at : ℕ) → at ≤ length s → length s - at < n → part n s at ≡ bad (no 1)
-unfolding part
-part-short n s at h g = rw (lt-leb (at + n) (length s) (omega arith))
-
 pub part-whole : (n : ℕ) (s : List ℕ) (at : ℕ) → at ≤ length s → n ≤ length s - at → part n s at ≡ got (record { start = at; len = n }) (at + n)
 unfolding part
 part-whole n s at h g = rw (le-leb (at + n) (length s) (omega arith))
@@ -94,9 +83,6 @@ sized_gives : (low high : ℕ) (s : List ℕ) (at : ℕ) → Gives (λ p next. I
 unfolding sized part
 sized_gives low high s at = gives_then (λ p next. Inside s p) (counted low high s at) _
     (λ n m. gives_if (λ p next. Inside s p) (leb (m + n) (length s)) (record { start = m; len = n }) (m + n) (no 1) (leb-true (m + n) (length s)))
-
-pub sized_inside : (low high : ℕ) (s : List ℕ) (at : ℕ) (p : Part) (next : ℕ) → sized low high s at ≡ got p next → p.start + p.len ≤ length s
-sized_inside low high s at p next e = gave (λ p next. Inside s p) e (sized_gives low high s at)
 
 -- ---- several things
 
@@ -111,7 +97,7 @@ each_more {A} P n a l p E = record { long = ap suc E.long; each = place }
     place d zero lt = p
     place d (suc i) lt = E.each d i (omega arith)
 
-many_gives : {A : Type 0} (P : A → Type 0) (f : ℕ → Got A) → ((at : ℕ) → Gives (λ a next. P a) (f at)) → (n at : ℕ) → Gives (λ l next. Each P n l) (many n f at)
+many_gives : {A : Type 0} (P : A → Type 0) (f : ℕ → Read A) → ((at : ℕ) → Gives (λ a next. P a) (f at)) → (n at : ℕ) → Gives (λ l next. Each P n l) (many n f at)
 unfolding many
 many_gives P f h zero at = record { long = refl; each = λ d i lt. absurd (omega arith) }
 many_gives P f h (suc n) at = gives_after (λ a next. P a) (λ l next. Each P (suc n) l) (f at) _ (h at)
@@ -143,21 +129,21 @@ head_gives k s = gives_then P (kind k s 0) _ (λ _ a.
 
 -- a fact of a whole telegram
 abbrev Holds : {A : Type 0} → (A → Type 0) → Whole A → Type 0
-Holds P (whole a) = P a
-Holds P (refused k) = Unit
+Holds P (Ok a) = P a
+Holds P (Err k) = Unit
 
-ended-holds : {A B : Type 0} (P : B → Type 0) (s : List ℕ) (g : Got A) (f : A → ℕ → Got B) → Gives (λ b next. P b) (after g f) → Holds P (ended s (after g f))
+ended-holds : {A B : Type 0} (P : B → Type 0) (s : List ℕ) (g : Read A) (f : A → ℕ → Read B) → Gives (λ b next. P b) (after g f) → Holds P (ended s (after g f))
 ended-holds {A} {B} P s g f = pick (after g f)
   where
-    test : (t : Bool) (b : B) → P b → Holds P (cond t (whole b) (refused (no 5)))
+    test : (t : Bool) (b : B) → P b → Holds P (cond t (Ok b) (Err (no 5)))
     test true b h = h
     test false b h = tt
 
-    pick : (r : Got B) → Gives (λ b next. P b) r → Holds P (ended s r)
-    pick (got b next) h = test (eqb next (length s)) b h
-    pick (bad k) h = tt
+    pick : (r : Read B) → Gives (λ b next. P b) r → Holds P (ended s r)
+    pick (Ok g) h = test (eqb g.next (length s)) g.value h
+    pick (Err k) h = tt
 
-held : {A : Type 0} (P : A → Type 0) {w : Whole A} {a : A} → w ≡ whole a → Holds P w → P a
+held : {A : Type 0} (P : A → Type 0) {w : Whole A} {a : A} → w ≡ Ok a → Holds P w → P a
 held P e h = rw e at h
 
 event-holds : (s : List ℕ) → Holds (λ (e : Event). Within s e.names) (event_form s)
@@ -169,37 +155,33 @@ event-holds s = ended-holds (λ (e : Event). Within s e.names) s (kind 1 s 0) _ 
     P : Event → ℕ → Type 0
     P e next = Within s e.names
 
-batch-holds : (s : List ℕ) → Holds (λ (b : Batch). Within s b.head.names) (batch_form s)
-unfolding batch_form
-batch-holds s = ended-holds (λ (b : Batch). Within s b.head.names) s (head 2 s) _ (gives_after (λ (h : Head) next. Within s h.names) P (head 2 s) _ (head_gives 2 s) (λ h a w.
-    gives_then P (counted 0 256 s a) _ (λ count b.
-    gives_then P (many count (body h.names.count s) b) _ (λ _ next. w))))
-  where
-    P : Batch → ℕ → Type 0
-    P b next = Within s b.head.names
-
-since-holds : (s : List ℕ) → Holds (λ (t : Since). Within s t.head.names) (since_form s)
-unfolding since_form
-since-holds s = ended-holds (λ (t : Since). Within s t.head.names) s (head 3 s) _ (gives_after (λ (h : Head) next. Within s h.names) P (head 3 s) _ (head_gives 3 s) (λ h a w.
-    gives_then P (counted 0 64 s a) _ (λ count b.
-    gives_then P (many count (exception h.names.count s) b) _ (λ _ next. w))))
-  where
-    P : Since → ℕ → Type 0
-    P t next = Within s t.head.names
+-- whatever is made of a head, a count and a place
+items-holds : {A B : Type 0} (k limit : ℕ) (f : ℕ → List ℕ → ℕ → Read A) (make : Head → ℕ → ℕ → B) (P : B → Type 0) (s : List ℕ)
+    → ((h : Head) (count start : ℕ) → Within s h.names → P (make h count start)) → Holds P (items_form k limit f make s)
+items-holds k limit f make P s q =
+    ended-holds P s (head k s) _ (gives_after (λ (h : Head) next. Within s h.names) (λ b next. P b) (head k s) _ (head_gives k s) (λ h a w.
+    gives_then (λ b next. P b) (counted 0 limit s a) _ (λ count b.
+    gives_then (λ b next. P b) (many count (f h.names.count s) b) _ (λ _ next. q h count b w))))
 
 -- ---- the names that an answer holds
 
-pub list-names : {r : ListRead} (s : List ℕ) (at : ℕ) → r ≡ list_read (list s at) → r.outcome ≡ Done → Within s r.names
-list-names {r} s at e o = gave (λ l next. Within s l) (list-got s at e o) (list_gives s at)
+pub list-names : (s : List ℕ) (at : ℕ) (l : Names) (next : ℕ) → list s at ≡ got l next → Within s l
+list-names s at l next e = gave (λ l next. Within s l) e (list_gives s at)
 
-pub head-names : {r : HeadRead} (k : ℕ) (s : List ℕ) → r ≡ head_read (head k s) → r.outcome ≡ Done → Within s r.head.names
-head-names {r} k s e o = gave (λ (h : Head) next. Within s h.names) (head-got k s e o) (head_gives k s)
+pub head-names : (k : ℕ) (s : List ℕ) (h : Head) (next : ℕ) → head k s ≡ got h next → Within s h.names
+head-names k s h next e = gave (λ (h : Head) next. Within s h.names) e (head_gives k s)
 
-pub event-names : {r : EventRead} (s : List ℕ) → r ≡ event_read (event_form s) → r.outcome ≡ Done → Within s r.event.names
-event-names {r} s e o = held (λ (e : Event). Within s e.names) (event-whole s e o) (event-holds s)
+pub event-names : (s : List ℕ) (e : Event) → event_form s ≡ Ok e → Within s e.names
+event-names s e h = held (λ (e : Event). Within s e.names) h (event-holds s)
 
-pub batch-names : {r : BatchRead} (s : List ℕ) → r ≡ batch_read (batch_form s) → r.outcome ≡ Done → Within s r.batch.head.names
-batch-names {r} s e o = held (λ (b : Batch). Within s b.head.names) (batch-whole s e o) (batch-holds s)
+pub items-names : {A : Type 0} (k limit : ℕ) (f : ℕ → List ℕ → ℕ → Read A) (s : List ℕ) (i : Items) → items_form k limit f items_of s ≡ Ok i → Within s i.head.names
+items-names k limit f s i h =
+    held (λ (i : Items). Within s i.head.names) h (items-holds k limit f items_of (λ (i : Items). Within s i.head.names) s (λ h count start w. w))
 
-pub since-names : {r : SinceRead} (s : List ℕ) → r ≡ since_read (since_form s) → r.outcome ≡ Done → Within s r.since.head.names
-since-names {r} s e o = held (λ (t : Since). Within s t.head.names) (since-whole s e o) (since-holds s)
+pub batch-names : (s : List ℕ) (b : Batch) → batch_form s ≡ Ok b → Within s b.head.names
+unfolding batch_form
+batch-names s b h = held (λ (b : Batch). Within s b.head.names) h (items-holds 2 256 body batch_of (λ (b : Batch). Within s b.head.names) s (λ h count start w. w))
+
+pub since-names : (s : List ℕ) (r : Since) → since_form s ≡ Ok r → Within s r.head.names
+unfolding since_form
+since-names s r h = held (λ (r : Since). Within s r.head.names) h (items-holds 3 64 exception since_of (λ (r : Since). Within s r.head.names) s (λ h count start w. w))

@@ -5,6 +5,7 @@ use mathlib.Core.List.{List, [], ◌++◌}
 use Prim.Native.Nat.{ℕ, suc, ◌+◌, ◌*◌, ◌/◌, ◌≤◌, ◌<◌}
 use native.Mathlib.Omega.{arith}
 use lib.ListN.{length, get_or, replicate, length-append, length-take, length-replicate}
+use Rattle.std.specs.Prelude.{Ok}
 use Rattle.lists.specs.Lists.{tab, all, chain, joined}
 use Rattle.lists.proofs.Cases.{split}
 use Rattle.lists.proofs.Laws.{get_or-tab}
@@ -12,7 +13,7 @@ use Rattle.lists.proofs.Joined.{at_each, each_same, chain-joined, joined_most, j
 use Rattle.leb128.specs.Leb128.{groups, spell, width_of, last_number}
 use Rattle.leb128.proofs.Laws.{width_one, width_more}
 use Rattle.leb128.proofs.Spelling.{width_range}
-use Rattle.telegram.specs.Reading.{whole, texts, fair, fair_at, fair_bytes, same_bytes}
+use Rattle.telegram.specs.Reading.{texts, fair, fair_at, fair_bytes, same_bytes}
 use Rattle.telegram.specs.Meaning.{EventBody, EventTelegram, BatchTelegram, SinceTelegram, Heading, body_of, heading_of, sized_bytes, list_bytes, version_bytes, body_bytes, head_bytes, exception_bytes, event_bytes, batch_bytes, since_bytes, GoodList, GoodVersion, GoodBody, GoodHeading, GoodException, GoodEvent, GoodBatch, GoodSince}
 use Rattle.telegram.specs.Writing.{body_spelt, event_spelt, head_spelt, exception_spelt}
 use Rattle.telegram.specs.declared.list.Names.{Names}
@@ -148,21 +149,21 @@ follows_most {k = k} {s = s} {h} {count} {spelt} {l = l} w lk most each =
     ))
 
 -- the names of t, the body of s
-pub event_written_most : (t : List ℕ) (l : Names) (s : List ℕ) (b : Body) (bytes : List ℕ) → event_spelt t l s b ≡ whole bytes → length bytes ≤ 393
+pub event_written_most : (t : List ℕ) (l : Names) (s : List ℕ) (b : Body) (bytes : List ℕ) → event_spelt t l s b ≡ Ok bytes → length bytes ≤ 393
 event_written_most t l s b bytes e =
     let w = event_written t l s b bytes e in
     rw w.0 (event_bytes_most (event_from t l s b) (listed-short w.1.0) (fits_most l.count s b w.1.1))
 
 -- a head and as many bodies as it counts or fewer, each a part of its own bytes
 pub batch_written_most : (s : List ℕ) (h : Head) (count : ℕ) (l : List (List ℕ × Body)) (bytes : List ℕ) → length l ≤ count
-    → head_then (head_spelt 2 256 s h count) (λ p. body_spelt h.names.count p.0 p.1) l ≡ whole bytes → length bytes ≤ 30821
+    → head_then (head_spelt 2 256 s h count) (λ p. body_spelt h.names.count p.0 p.1) l ≡ Ok bytes → length bytes ≤ 30821
 batch_written_most s h count l bytes few e =
     let w = batch_written_lem s h count l bytes e in
     omega (arith, w.few, width_two count (omega (arith, w.few)), follows_most w (omega arith) 119 (λ p. fits_most h.names.count p.0 p.1))
 
 -- a head and as many exceptions as it counts or fewer
 pub since_written_most : (s : List ℕ) (h : Head) (count : ℕ) (l : List Exception) (bytes : List ℕ) → length l ≤ count
-    → head_then (head_spelt 3 64 s h count) (exception_spelt h.names.count) l ≡ whole bytes → length bytes ≤ 740
+    → head_then (head_spelt 3 64 s h count) (exception_spelt h.names.count) l ≡ Ok bytes → length bytes ≤ 740
 since_written_most s h count l bytes few e =
     let w = since_written s h count l bytes e in
     omega (arith, w.few, width_small count (omega (arith, w.few)), follows_most w (omega arith) 6 (λ x lt. exception_most x (omega (arith, w.list.few))))

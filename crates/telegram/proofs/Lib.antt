@@ -1,6 +1,6 @@
-pub mod Told
 pub mod Parts
 pub mod Inside
+pub mod Made
 pub mod Walks
 pub mod Fair
 pub mod Filled

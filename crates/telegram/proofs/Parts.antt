@@ -1,11 +1,11 @@
 -- Parts that lie in their slice, and lists of them. Assumes nothing.
-use mathlib.Core.Path.{◌≡◌, sym, ap, ◌∙◌}
+use mathlib.Core.Path.{◌≡◌, ap, ◌∙◌}
 use mathlib.Core.Bool.{true, ◌&&◌}
 use mathlib.Core.List.{List, []}
-use Prim.Native.Nat.{ℕ, ◌+◌, ◌-◌, ◌≤◌, ◌<◌}
+use Prim.Native.Nat.{ℕ, ◌+◌, ◌≤◌, ◌<◌}
 use native.Mathlib.Omega.{arith}
-use lib.ListN.{length, drop, get_or, length-drop, drop_of_length-le}
-use lib.Seq.{length-take-le, take-nil, take_all}
+use lib.ListN.{length, take, drop, get_or, length-take, length-drop}
+use lib.Seq.{length-take-le, get_or-take}
 use lib.Dec.{leb}
 use borrow.Author.Tests.{leb-true, le-leb}
 use Rattle.lists.specs.Lists.{all}
@@ -20,19 +20,14 @@ use Rattle.telegram.specs.declared.list.Names.{Names}
 abbrev pub part_of : Names → ℕ → Part
 part_of l i = get_or l.parts i nowhere
 
+-- a part of those that are listed
+pub listed : (l : Names) (i : ℕ) → i < length (take l.count l.parts) → (i < l.count) × (get_or (take l.count l.parts) i nowhere ≡ part_of l i)
+listed l i h =
+    let lt : i < l.count = omega (arith, length-take l.count l.parts) in
+    (lt, get_or-take l.count l.parts i nowhere lt)
+
 pub length-text : (s : List ℕ) (p : Part) → p.start + p.len ≤ length s → length (text s p) ≡ p.len
 length-text s p h = length-take-le p.len (drop p.start s) (omega (arith, length-drop p.start s))
-
--- as much of a part as lies in its slice
-pub clipped_none : (s : List ℕ) (p : Part) → length s ≤ p.start → [] ≡ text s p
-clipped_none s p h = rw (drop_of_length-le s {i = p.start} h) (sym (take-nil p.len))
-
-pub clipped_rest : (s : List ℕ) (p : Part) → p.start < length s → length s - p.start < p.len → text s (record { start = p.start; len = length s - p.start }) ≡ text s p
-clipped_rest s p h lt =
-    rw (
-      take_all (length s - p.start) (drop p.start s) (omega (arith, length-drop p.start s)),
-      take_all p.len (drop p.start s) (omega (arith, length-drop p.start s)),
-    )
 
 pub record PartIs (low high : ℕ) (s : List ℕ) (p : Part) : Type 0 where
   pub least : low ≤ p.len

@@ -6,19 +6,20 @@ use Prim.Native.Nat.{ℕ, ◌+◌, ◌≤◌, ◌<◌}
 use native.Mathlib.Omega.{arith}
 use lib.ListN.{length, take, drop, get_or, length-map}
 use borrow.Author.Tests.{lt-ltb, le-leb, eq-eqb}
+use Rattle.std.specs.Prelude.{Ok}
 use Rattle.lists.specs.Lists.{joined}
 use Rattle.lists.proofs.Joined.{Each, at_each, chain-joined}
 use Rattle.lists.proofs.Stands.{Stands, stand_first, stand_second, stand_drop, stand_whole}
-use Rattle.leb128.specs.Leb128.{spell, last_number}
+use Rattle.leb128.specs.Leb128.{Read, got, spell, last_number}
 use Rattle.leb128.proofs.Spelling.{read_spelt}
-use Rattle.telegram.specs.Fields.{Got, got, number_told, number, kind, counted, placed, part, sized, text, many}
-use Rattle.telegram.specs.Reading.{Whole, whole, fair, event_form, batch_form, since_form, exception, head, names, list, entries, body, filled, names_of, texts}
+use Rattle.telegram.specs.Fields.{number, kind, counted, placed, part, sized, text, many}
+use Rattle.telegram.specs.Reading.{Whole, fair, event_form, batch_form, since_form, exception, head, names, list, entries, body, filled, names_of, texts}
 use Rattle.telegram.specs.Meaning.{EventBody, EventTelegram, Heading, BatchTelegram, SinceTelegram, body_of, heading_of, event_of, sized_bytes, list_bytes, version_bytes, body_bytes, head_bytes, exception_bytes, event_bytes, batch_bytes, since_bytes, event_told, batch_told, since_told, GoodList, GoodVersion, GoodBody, GoodHeading, GoodException, GoodEvent, GoodBatch, GoodSince}
 use Rattle.telegram.specs.declared.since.Exception.{Exception}
 use Rattle.telegram.proofs.Filled.{take-filled, count-texts, texts_named}
 
 -- something is read that says x, and next is the place behind it
-record Read {A X : Type 0} (says : A → X) (g : Got A) (x : X) (next : ℕ) : Type 0 where
+record ReadBack {A X : Type 0} (says : A → X) (g : Read A) (x : X) (next : ℕ) : Type 0 where
   found : A
   answers : g ≡ got found next
   means : says found ≡ x
@@ -26,29 +27,28 @@ record Read {A X : Type 0} (says : A → X) (g : Got A) (x : X) (next : ℕ) : T
 -- a whole telegram is read that says x
 record ReadWhole {A X : Type 0} (says : A → X) (w : Whole A) (x : X) : Type 0 where
   found : A
-  answers : w ≡ whole found
+  answers : w ≡ Ok found
   means : says found ≡ x
 
 -- a head is read, and at mid stands a count
 record Begun (s : List ℕ) (k : ℕ) (h : Heading) (count next : ℕ) : Type 0 where
   mid : ℕ
-  heads : Read (heading_of s) (head k s) h mid
+  heads : ReadBack (heading_of s) (head k s) h mid
   counts : Stands s mid (spell count) next
 
 -- a head, a count and so many things are read, and nothing stands behind them
-record Carried (s : List ℕ) {A X : Type 0} (k limit : ℕ) (f : ℕ → ℕ → Got A) (says : ℕ → A → X) (h : Heading) (l : List X) : Type 0 where
+record Carried (s : List ℕ) {A X : Type 0} (k limit : ℕ) (f : ℕ → ℕ → Read A) (says : ℕ → A → X) (h : Heading) (l : List X) : Type 0 where
   mid : ℕ
   start : ℕ
-  heads : Read (heading_of s) (head k s) h mid
+  heads : ReadBack (heading_of s) (head k s) h mid
   counts : counted 0 limit s mid ≡ got (length l) start
-  items : Read (map (says heads.found.names.count)) (many (length l) (f heads.found.names.count) start) l (length s)
+  items : ReadBack (map (says heads.found.names.count)) (many (length l) (f heads.found.names.count) start) l (length s)
 
 module _ {s : List ℕ} where
   -- ---- numbers
 
   number_back : {at next : ℕ} (n : ℕ) → n ≤ last_number → Stands s at (spell n) next → number s at ≡ got n next
-  unfolding number
-  number_back {at} {next} n h p = ap number_told (read_spelt n at s (drop next s) h (stand_drop p)) ∙ rw (← p.ends)
+  number_back {at} {next} n h p = read_spelt n at s (drop next s) h (stand_drop p) ∙ rw (← p.ends)
 
   kind_back : {at next : ℕ} (k : ℕ) → k ≤ last_number → Stands s at (spell k) next → kind k s at ≡ got k next
   unfolding kind
@@ -69,7 +69,7 @@ module _ {s : List ℕ} where
   part_back {next = next} b p = rw (← p.ends, le-leb next (length s) p.within)
 
   sized_back : {at next : ℕ} (low high : ℕ) (b : List ℕ) → high ≤ last_number → low ≤ length b → length b ≤ high → Stands s at (sized_bytes b) next
-      → Read (text s) (sized low high s at) b next
+      → ReadBack (text s) (sized low high s at) b next
   unfolding sized sized_bytes
   sized_back {at} low high b h l m p =
       let q = stand_second (spell (length b)) b p in
@@ -81,9 +81,9 @@ module _ {s : List ℕ} where
 
   -- ---- several things
 
-  many_back : {A X : Type 0} (says : A → X) (bytes : X → List ℕ) (f : ℕ → Got A) (l : List X)
-      → Each (λ x. (at next : ℕ) → Stands s at (bytes x) next → Read says (f at) x next) l
-      → {at next : ℕ} → Stands s at (joined bytes l) next → Read (map says) (many (length l) f at) l next
+  many_back : {A X : Type 0} (says : A → X) (bytes : X → List ℕ) (f : ℕ → Read A) (l : List X)
+      → Each (λ x. (at next : ℕ) → Stands s at (bytes x) next → ReadBack says (f at) x next) l
+      → {at next : ℕ} → Stands s at (joined bytes l) next → ReadBack (map says) (many (length l) f at) l next
   unfolding many joined
   many_back says bytes f [] h p = record { found = []; answers = ap (got []) (omega (arith, p.ends)); means = refl }
   many_back says bytes f (x ∷ l) h p =
@@ -93,11 +93,11 @@ module _ {s : List ℕ} where
 
   -- ---- lists of names
 
-  names_back : {at next : ℕ} (l : List (List ℕ)) → GoodList l → Stands s at (joined sized_bytes l) next → Read (texts s) (names (length l) s at) l next
+  names_back : {at next : ℕ} (l : List (List ℕ)) → GoodList l → Stands s at (joined sized_bytes l) next → ReadBack (texts s) (names (length l) s at) l next
   unfolding names
   names_back l g p =
       let r = many_back (text s) sized_bytes (sized 1 16 s) l
-      (at_each (λ b. (at next : ℕ) → Stands s at (sized_bytes b) next → Read (text s) (sized 1 16 s at) b next) [] l
+      (at_each (λ b. (at next : ℕ) → Stands s at (sized_bytes b) next → ReadBack (text s) (sized 1 16 s at) b next) [] l
       (λ i lt at next q. sized_back 1 16 (get_or l i []) (omega arith) (g.long i lt) (g.short i lt) q)) p in
       record {
         found = names_of r.found;
@@ -105,7 +105,7 @@ module _ {s : List ℕ} where
         means = texts_named s r.found (omega (arith, g.few, length-map r.found (text s), ap length r.means)) ∙ r.means;
       }
 
-  list_back : {at next : ℕ} (l : List (List ℕ)) → GoodList l → Stands s at (list_bytes l) next → Read (texts s) (list s at) l next
+  list_back : {at next : ℕ} (l : List (List ℕ)) → GoodList l → Stands s at (list_bytes l) next → ReadBack (texts s) (list s at) l next
   unfolding list list_bytes
   list_back l g p =
       let q = rw (chain-joined sized_bytes [] l) at p in
@@ -118,11 +118,11 @@ module _ {s : List ℕ} where
 
   -- ---- event bodies
 
-  entries_back : {at next : ℕ} (count : ℕ) (v : List ℕ) → count ≤ 16 → GoodVersion count v → Stands s at (version_bytes v) next → Read (take count) (entries count s at) v next
+  entries_back : {at next : ℕ} (count : ℕ) (v : List ℕ) → count ≤ 16 → GoodVersion count v → Stands s at (version_bytes v) next → ReadBack (take count) (entries count s at) v next
   unfolding entries version_bytes
   entries_back count v h g p =
       let r = many_back (λ n. n) spell (number s) v
-      (at_each (λ n. (at next : ℕ) → Stands s at (spell n) next → Read (λ n. n) (number s at) n next) 0 v
+      (at_each (λ n. (at next : ℕ) → Stands s at (spell n) next → ReadBack (λ n. n) (number s at) n next) 0 v
       (λ i lt at next q. record { found = _; answers = number_back (get_or v i 0) (g.numbers i) q; means = refl })) (rw (chain-joined spell 0 v) at p) in
       let e = sym (map-id r.found) ∙ r.means in
       record {
@@ -131,7 +131,7 @@ module _ {s : List ℕ} where
         means = take-filled 0 count r.found (ap length e ∙ g.one_each) h ∙ e;
       }
 
-  body_back : {at next : ℕ} (count : ℕ) (b : EventBody) → count ≤ 16 → GoodBody count b → Stands s at (body_bytes b) next → Read (body_of count s) (body count s at) b next
+  body_back : {at next : ℕ} (count : ℕ) (b : EventBody) → count ≤ 16 → GoodBody count b → Stands s at (body_bytes b) next → ReadBack (body_of count s) (body count s at) b next
   unfolding body body_bytes
   body_back count b h g p =
       let p1 = stand_second (spell b.origin) (spell b.number ++ (version_bytes b.version ++ sized_bytes b.operation)) p in
@@ -167,11 +167,11 @@ module _ {s : List ℕ} where
         means = λ i. record { names = l.means i; body = b.means i };
       }
 
-  event_back : (t : EventTelegram) → GoodEvent t → Stands s 0 (event_bytes t) (length s) → event_told s ≡ whole t
+  event_back : (t : EventTelegram) → GoodEvent t → Stands s 0 (event_bytes t) (length s) → event_told s ≡ Ok t
   unfolding event_told
   event_back t g p =
       let r = event_form_back t g p in
-      rw (r.answers, ap (λ (e : EventTelegram). fair e.names) r.means, g.list.distinct) (ap whole r.means)
+      rw (r.answers, ap (λ (e : EventTelegram). fair e.names) r.means, g.list.distinct) (ap Ok r.means)
 
   -- ---- batches and sinces
 
@@ -202,9 +202,9 @@ module _ {s : List ℕ} where
         counts = stand_second (version_bytes h.version) (spell count) p3;
       }
 
-  carried_back : {A X : Type 0} (k limit : ℕ) (f : ℕ → ℕ → Got A) (says : ℕ → A → X) (bytes : X → List ℕ) (h : Heading) (l : List X)
+  carried_back : {A X : Type 0} (k limit : ℕ) (f : ℕ → ℕ → Read A) (says : ℕ → A → X) (bytes : X → List ℕ) (h : Heading) (l : List X)
       → k ≤ last_number → limit ≤ last_number → GoodHeading h → length l ≤ limit
-      → Each (λ x. (at next : ℕ) → Stands s at (bytes x) next → Read (says (length h.names)) (f (length h.names) at) x next) l
+      → Each (λ x. (at next : ℕ) → Stands s at (bytes x) next → ReadBack (says (length h.names)) (f (length h.names) at) x next) l
       → Stands s 0 (head_bytes k h (length l) ++ joined bytes l) (length s) → Carried s k limit f says h l
   carried_back k limit f says bytes h l lk ll g few each p =
       let b = head_back k h (length l) lk g (stand_first (head_bytes k h (length l)) (joined bytes l) p) in
@@ -217,7 +217,7 @@ module _ {s : List ℕ} where
         items = rw c (many_back (says (length h.names)) bytes (f (length h.names)) l each (stand_second (head_bytes k h (length l)) (joined bytes l) p));
       }
 
-  batch_back : (t : BatchTelegram) → GoodBatch t → Stands s 0 (batch_bytes t) (length s) → batch_told s ≡ whole t
+  batch_back : (t : BatchTelegram) → GoodBatch t → Stands s 0 (batch_bytes t) (length s) → batch_told s ≡ Ok t
   unfolding batch_told batch_form batch_bytes
   batch_back t g p =
       let r =
@@ -233,7 +233,7 @@ module _ {s : List ℕ} where
         g.heading.list.distinct,
         r.items.answers,
       )
-      (λ i. whole (record { heading = r.heads.means i; bodies = r.items.means i }))
+      (λ i. Ok (record { heading = r.heads.means i; bodies = r.items.means i }))
 
   exception_back : {at next : ℕ} (count : ℕ) (e : Exception) → count ≤ 16 → GoodException count e → Stands s at (exception_bytes e) next
       → exception count s at ≡ got e next
@@ -244,7 +244,7 @@ module _ {s : List ℕ} where
         number_back e.number g.counts (stand_second (spell e.place.0) (spell e.number) p),
       )
 
-  since_back : (t : SinceTelegram) → GoodSince t → Stands s 0 (since_bytes t) (length s) → since_told s ≡ whole t
+  since_back : (t : SinceTelegram) → GoodSince t → Stands s 0 (since_bytes t) (length s) → since_told s ≡ Ok t
   unfolding since_told since_form since_bytes
   since_back t g p =
       let r =
@@ -262,15 +262,15 @@ module _ {s : List ℕ} where
         g.heading.list.distinct,
         r.items.answers,
       )
-      (λ i. whole (record { heading = r.heads.means i; exceptions = e i }))
+      (λ i. Ok (record { heading = r.heads.means i; exceptions = e i }))
 
 -- ---- reading what was written
 
-pub event_read_back : (t : EventTelegram) → GoodEvent t → event_told (event_bytes t) ≡ whole t
+pub event_read_back : (t : EventTelegram) → GoodEvent t → event_told (event_bytes t) ≡ Ok t
 event_read_back t g = event_back t g (stand_whole (event_bytes t))
 
-pub batch_read_back : (t : BatchTelegram) → GoodBatch t → batch_told (batch_bytes t) ≡ whole t
+pub batch_read_back : (t : BatchTelegram) → GoodBatch t → batch_told (batch_bytes t) ≡ Ok t
 batch_read_back t g = batch_back t g (stand_whole (batch_bytes t))
 
-pub since_read_back : (t : SinceTelegram) → GoodSince t → since_told (since_bytes t) ≡ whole t
+pub since_read_back : (t : SinceTelegram) → GoodSince t → since_told (since_bytes t) ≡ Ok t
 since_read_back t g = since_back t g (stand_whole (since_bytes t))

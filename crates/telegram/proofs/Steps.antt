@@ -8,63 +8,60 @@ use lib.ListN.{length}
 use lib.Dec.{eqb}
 use borrow.Author.Tests.{eqb-true}
 use Rattle.refusal.specs.declared.Refusal.{Refusal}
-use Rattle.refusal.specs.Refusal.{no}
-use Rattle.leb128.specs.declared.NumberRead.{NumberRead}
-use Rattle.leb128.specs.declared.NumberRead.TheVariants as numberRead
-use Rattle.telegram.specs.Fields.{Got, got, bad, after, number_told, judged}
-use Rattle.telegram.specs.Reading.{Whole, whole, refused, then, ended, texts, fair, fairly}
+use Rattle.refusal.specs.Refusal.{no, then}
+use Rattle.std.specs.Prelude.{Ok, Err}
+use Rattle.leb128.specs.Leb128.{Read, got}
+use Rattle.leb128.proofs.Gots.{got_value, got_next}
+use Rattle.telegram.specs.Fields.{after, judged}
+use Rattle.telegram.specs.Reading.{Whole, ended, texts, fair, fairly}
 use Rattle.telegram.specs.declared.list.Names.{Names}
-
-pub number_told_lem : (r : NumberRead) (n next : ℕ) → number_told r ≡ got n next → r ≡ numberRead.Value n next
-number_told_lem (numberRead.Value m at) n next e = cc
-number_told_lem (numberRead.Refused k) n next e = cc
 
 module _ {A : Type 0} where
   pub got_same : {a b : A} {m n : ℕ} → got a m ≡ got b n → (a ≡ b) × (m ≡ n)
-  got_same e = (cc, cc)
+  got_same e = (got_value e, got_next e)
 
   -- what holds of the thing and place on one side holds on the other
   pub got_carry : (P : A → ℕ → Type 0) {a b : A} {m n : ℕ} → got a m ≡ got b n → P a m → P b n
   got_carry P e p = let q = got_same e in rw (← q.0, ← q.1) p
 
-  pub whole_same : {a b : A} → whole a ≡ whole b → a ≡ b
+  pub whole_same : {a b : A} → ◌≡◌ {A = Whole A} (Ok a) (Ok b) → a ≡ b
   whole_same e = cc
 
   -- the first thing was read, and the rest from the place behind it
-  pub after_is : {B C : Type 0} (g : Got A) (f : A → ℕ → Got B) {b : B} {next : ℕ} → after g f ≡ got b next
+  pub after_is : {B C : Type 0} (g : Read A) (f : A → ℕ → Read B) {b : B} {next : ℕ} → after g f ≡ got b next
       → ((a : A) (mid : ℕ) → g ≡ got a mid → f a mid ≡ got b next → C) → C
-  after_is (got a mid) f e k = k a mid refl e
-  after_is (bad r) f e k = absurd (let z : ◌≡◌ {A = ℕ} 0 1 = cc in omega arith)
+  after_is (Ok g) f e k = k g.value g.next refl e
+  after_is (Err r) f e k = absurd (let z : ◌≡◌ {A = ℕ} 0 1 = cc in omega arith)
 
-  pub then_is : {B C : Type 0} (w : Whole A) (f : A → Whole B) {b : B} → then w f ≡ whole b → ((a : A) → w ≡ whole a → f a ≡ whole b → C) → C
-  then_is (whole a) f e k = k a refl e
-  then_is (refused r) f e k = absurd (let z : ◌≡◌ {A = ℕ} 0 1 = cc in omega arith)
+  pub then_is : {B C : Type 0} (w : Whole A) (f : A → Whole B) {b : B} → then w f ≡ Ok b → ((a : A) → w ≡ Ok a → f a ≡ Ok b → C) → C
+  then_is (Ok a) f e k = k a refl e
+  then_is (Err r) f e k = absurd (let z : ◌≡◌ {A = ℕ} 0 1 = cc in omega arith)
 
   -- what a test let through
-  pub if_got : (t : Bool) (g : Got A) (k : Refusal) {a : A} {next : ℕ} → cond t g (bad k) ≡ got a next → (t ≡ true) × (g ≡ got a next)
+  pub if_got : (t : Bool) (g : Read A) (k : Refusal) {a : A} {next : ℕ} → cond t g (Err k) ≡ got a next → (t ≡ true) × (g ≡ got a next)
   if_got true g k e = (refl, e)
   if_got false g k e = absurd (let z : ◌≡◌ {A = ℕ} 0 1 = cc in omega arith)
 
-  pub if_whole : (t : Bool) (w : Whole A) (k : Refusal) {a : A} → cond t w (refused k) ≡ whole a → (t ≡ true) × (w ≡ whole a)
+  pub if_whole : (t : Bool) (w : Whole A) (k : Refusal) {a : A} → cond t w (Err k) ≡ Ok a → (t ≡ true) × (w ≡ Ok a)
   if_whole true w k e = (refl, e)
   if_whole false w k e = absurd (let z : ◌≡◌ {A = ℕ} 0 1 = cc in omega arith)
 
-  pub ended_is : (s : List ℕ) (g : Got A) {a : A} → ended s g ≡ whole a → g ≡ got a (length s)
-  ended_is s (got x n) e =
-      let i = if_whole (eqb n (length s)) (whole x) (no 5) e in
-      let l = eqb-true n (length s) i.0 in
+  pub ended_is : (s : List ℕ) (g : Read A) {a : A} → ended s g ≡ Ok a → g ≡ got a (length s)
+  ended_is s (Ok g) e =
+      let i = if_whole (eqb g.next (length s)) (Ok g.value) (no 5) e in
+      let l = eqb-true g.next (length s) i.0 in
       let m = whole_same i.1 in
       λ j. got (m j) (l j)
-  ended_is s (bad k) e = absurd (let z : ◌≡◌ {A = ℕ} 0 1 = cc in omega arith)
+  ended_is s (Err k) e = absurd (let z : ◌≡◌ {A = ℕ} 0 1 = cc in omega arith)
 
-  pub fairly-is : (s : List ℕ) (namesIn : A → Names) (w : Whole A) {a : A} → fairly s namesIn w ≡ whole a → (w ≡ whole a) × (fair (texts s (namesIn a)) ≡ true)
-  fairly-is s namesIn (whole x) e =
-      let i = if_whole (fair (texts s (namesIn x))) (whole x) (no 6) e in
+  pub fairly-is : (s : List ℕ) (namesIn : A → Names) (w : Whole A) {a : A} → fairly s namesIn w ≡ Ok a → (w ≡ Ok a) × (fair (texts s (namesIn a)) ≡ true)
+  fairly-is s namesIn (Ok x) e =
+      let i = if_whole (fair (texts s (namesIn x))) (Ok x) (no 6) e in
       (i.1, ap (λ (y : A). fair (texts s (namesIn y))) (sym (whole_same i.1)) ∙ i.0)
-  fairly-is s namesIn (refused k) e = absurd (let z : ◌≡◌ {A = ℕ} 0 1 = cc in omega arith)
+  fairly-is s namesIn (Err k) e = absurd (let z : ◌≡◌ {A = ℕ} 0 1 = cc in omega arith)
 
-pub judged-is : (k : Refusal) (test : ℕ → Bool) (g : Got ℕ) (n next : ℕ) → judged k test g ≡ got n next → (test n ≡ true) × (g ≡ got n next)
-judged-is k test (got m at) n next e =
-    let i = if_got (test m) (got m at) k e in
+pub judged-is : (k : Refusal) (test : ℕ → Bool) (g : Read ℕ) (n next : ℕ) → judged k test g ≡ got n next → (test n ≡ true) × (g ≡ got n next)
+judged-is k test (Ok g) n next e =
+    let i = if_got (test g.value) (Ok g) k e in
     (ap test (sym (got_same i.1).0) ∙ i.0, i.1)
-judged-is k test (bad j) n next e = absurd (let z : ◌≡◌ {A = ℕ} 0 1 = cc in omega arith)
+judged-is k test (Err j) n next e = absurd (let z : ◌≡◌ {A = ℕ} 0 1 = cc in omega arith)

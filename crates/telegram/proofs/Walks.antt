@@ -6,13 +6,12 @@ use mathlib.Core.List.{List, [], ◌∷◌, ◌++◌, append_assoc, append-nil}
 use lib.ListN.{length, set, length-append}
 use Rattle.refusal.specs.declared.Refusal.{Refusal}
 use Rattle.lists.proofs.Laws.{tab_push}
-use Rattle.telegram.specs.declared.field.End.{End}
-use Rattle.telegram.specs.declared.field.End.TheVariants as ends
-use Rattle.telegram.specs.Fields.{Got, got, bad, after, counted, many, end_of}
-use Rattle.telegram.specs.Reading.{filled, body, exception, Whole, refused, ended, batch_rest, since_rest}
-use Rattle.telegram.specs.declared.head.Head.{Head}
+use Rattle.std.specs.Prelude.{Ok, Err}
+use Rattle.leb128.specs.Leb128.{Read, got}
+use Rattle.telegram.specs.Fields.{after, many, end_of}
+use Rattle.telegram.specs.Reading.{filled}
 
-module _ {A : Type 0} (f : ℕ → Got A) where
+module _ {A : Type 0} (f : ℕ → Read A) where
   many-none : (n at : ℕ) → n ≡ 0 → many n f at ≡ got [] at
   unfolding many
   many-none n at e = rw e refl
@@ -22,17 +21,17 @@ module _ {A : Type 0} (f : ℕ → Got A) where
   unfolding many
   many-first n m at a next e h = rw (e, h) refl
 
-  many-bad : (n m at : ℕ) (k : Refusal) → n ≡ suc m → f at ≡ bad k → many n f at ≡ bad k
+  many-bad : (n m at : ℕ) (k : Refusal) → n ≡ suc m → f at ≡ Err k → many n f at ≡ Err k
   unfolding many
   many-bad n m at k e h = rw (e, h) refl
 
 -- ---- a loop that keeps what it read in sixteen places
 
 -- what a reading got, put behind what was read before
-abbrev behind : {A : Type 0} → List A → Got (List A) → Got (List A)
+abbrev behind : {A : Type 0} → List A → Read (List A) → Read (List A)
 behind r g = after g (λ l next. got (r ++ l) next)
 
-pub record Filling {A : Type 0} (d : A) (f : ℕ → Got A) (n at : ℕ) (kept : List A) (i next : ℕ) : Type 0 where
+pub record Filling {A : Type 0} (d : A) (f : ℕ → Read A) (n at : ℕ) (kept : List A) (i next : ℕ) : Type 0 where
   pub read : List A
   pub long : length read ≡ i
   pub few : n ≤ 16
@@ -40,13 +39,13 @@ pub record Filling {A : Type 0} (d : A) (f : ℕ → Got A) (n at : ℕ) (kept :
   pub holds : kept ≡ filled d read
   pub rest : many n f at ≡ behind read (many (n - i) f next)
 
-module _ {A : Type 0} {d : A} {f : ℕ → Got A} {n at : ℕ} where
+module _ {A : Type 0} {d : A} {f : ℕ → Read A} {n at : ℕ} where
   pub fill_none : n ≤ 16 → (kept : List A) → kept ≡ filled d [] → Filling d f n at kept 0 at
   fill_none h kept e = record { read = []; long = refl; few = h; within = omega arith; holds = e; rest = let q : n - 0 ≡ n = omega arith in rw q (all (many n f at)) }
     where
-      all : (g : Got (List A)) → g ≡ behind [] g
-      all (got l next) = refl
-      all (bad k) = refl
+      all : (g : Read (List A)) → g ≡ behind [] g
+      all (Ok g) = refl
+      all (Err k) = refl
 
   pub fill_more : {kept : List A} {i next : ℕ} {a : A} {end : ℕ} → Filling d f n at kept i next → i < n → f next ≡ got a end → Filling d f n at (set kept i a) (i + 1) end
   fill_more {kept} {i} {next} {a} {end} M h e = record {
@@ -58,11 +57,11 @@ module _ {A : Type 0} {d : A} {f : ℕ → Got A} {n at : ℕ} where
     rest = M.rest ∙ (ap (behind M.read) (many-first f (n - i) (n - (i + 1)) next a end (omega arith) e) ∙ all (many (n - (i + 1)) f end));
   }
     where
-      all : (g : Got (List A)) → behind M.read (after g (λ l end. got (a ∷ l) end)) ≡ behind (M.read ++ (a ∷ [])) g
-      all (got l next) = ap (λ (l : List A). got l next) (sym (append_assoc M.read (a ∷ []) l))
-      all (bad k) = refl
+      all : (g : Read (List A)) → behind M.read (after g (λ l end. got (a ∷ l) end)) ≡ behind (M.read ++ (a ∷ [])) g
+      all (Ok g) = ap (λ (l : List A). got l g.next) (sym (append_assoc M.read (a ∷ []) g.value))
+      all (Err k) = refl
 
-  pub fill_bad : {kept : List A} {i next : ℕ} {k : Refusal} → Filling d f n at kept i next → i < n → f next ≡ bad k → many n f at ≡ bad k
+  pub fill_bad : {kept : List A} {i next : ℕ} {k : Refusal} → Filling d f n at kept i next → i < n → f next ≡ Err k → many n f at ≡ Err k
   fill_bad {kept} {i} {next} {k} M h e = M.rest ∙ ap (behind M.read) (many-bad f (n - i) (n - (i + 1)) next k (omega arith) e)
 
   pub fill_all : {kept : List A} {i next : ℕ} (M : Filling d f n at kept i next) → n ≤ i → (many n f at ≡ got M.read next) × (length M.read ≡ n)
@@ -71,11 +70,11 @@ module _ {A : Type 0} {d : A} {f : ℕ → Got A} {n at : ℕ} where
 
 -- ---- a loop that only goes to the end
 
-pub record Walking {A : Type 0} (f : ℕ → Got A) (n at i next : ℕ) : Type 0 where
+pub record Walking {A : Type 0} (f : ℕ → Read A) (n at i next : ℕ) : Type 0 where
   pub within : i ≤ n
   pub rest : end_of (many n f at) ≡ end_of (many (n - i) f next)
 
-module _ {A : Type 0} {f : ℕ → Got A} {n at : ℕ} where
+module _ {A : Type 0} {f : ℕ → Read A} {n at : ℕ} where
   pub walk_none : Walking f n at 0 at
   walk_none = record { within = omega arith; rest = let q : n - 0 ≡ n = omega arith in rw q refl }
 
@@ -85,30 +84,12 @@ module _ {A : Type 0} {f : ℕ → Got A} {n at : ℕ} where
     rest = M.rest ∙ (ap end_of (many-first f (n - i) (n - (i + 1)) next a end (omega arith) e) ∙ all (many (n - (i + 1)) f end));
   }
     where
-      all : (g : Got (List A)) → end_of (after g (λ l end. got (a ∷ l) end)) ≡ end_of g
-      all (got l next) = refl
-      all (bad k) = refl
+      all : (g : Read (List A)) → end_of (after g (λ l end. got (a ∷ l) end)) ≡ end_of g
+      all (Ok g) = refl
+      all (Err k) = refl
 
-  pub walk_bad : {i next : ℕ} {k : Refusal} → Walking f n at i next → i < n → f next ≡ bad k → ends.Refused k ≡ end_of (many n f at)
+  pub walk_bad : {i next : ℕ} {k : Refusal} → Walking f n at i next → i < n → f next ≡ Err k → Err k ≡ end_of (many n f at)
   walk_bad {i} {next} {k} M h e = sym (M.rest ∙ ap end_of (many-bad f (n - i) (n - (i + 1)) next k (omega arith) e))
 
-  pub walk_all : {i next : ℕ} → Walking f n at i next → n ≤ i → ends.At next ≡ end_of (many n f at)
+  pub walk_all : {i next : ℕ} → Walking f n at i next → n ≤ i → Ok next ≡ end_of (many n f at)
   walk_all {i} {next} M h = sym (M.rest ∙ ap end_of (many-none f (n - i) next (omega arith)))
-
--- ---- a telegram whose last things were only walked over
-
-abbrev pub ended_at : {A : Type 0} → List ℕ → A → End → Whole A
-ended_at s a (ends.At next) = ended s (got a next)
-ended_at s a (ends.Refused k) = refused k
-
-walked : {A B : Type 0} (s : List ℕ) (a : A) (g : Got B) → ended s (after g (λ _ next. got a next)) ≡ ended_at s a (end_of g)
-walked s a (got b next) = refl
-walked s a (bad k) = refl
-
-pub bodies_walked : (s : List ℕ) (at : ℕ) (h : Head) (count next : ℕ) {e : End} → counted 0 256 s at ≡ got count next → e ≡ end_of (many count (body h.names.count s) next)
-    → ended s (batch_rest s at h) ≡ ended_at s (record { head = h; count = count; bodies = next }) e
-bodies_walked s at h count next c e = rw (c, e) (walked s (record { head = h; count = count; bodies = next }) (many count (body h.names.count s) next))
-
-pub exceptions_walked : (s : List ℕ) (at : ℕ) (h : Head) (count next : ℕ) {e : End} → counted 0 64 s at ≡ got count next → e ≡ end_of (many count (exception h.names.count s) next)
-    → ended s (since_rest s at h) ≡ ended_at s (record { head = h; count = count; exceptions = next }) e
-exceptions_walked s at h count next c e = rw (c, e) (walked s (record { head = h; count = count; exceptions = next }) (many count (exception h.names.count s) next))

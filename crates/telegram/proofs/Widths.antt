@@ -5,7 +5,6 @@ use mathlib.Core.Path.{◌≡◌, refl, ap}
 use mathlib.Core.Bool.{true, ◌&&◌}
 use mathlib.Core.List.{List, [], ◌++◌}
 use lib.ListN.{length, take, get_or, length-append, length-take}
-use lib.Seq.{length-take-le, get_or-take}
 use lib.Dec.{leb}
 use Rattle.lists.specs.Lists.{at, all, chain}
 use Rattle.lists.proofs.Laws.{length-tab, get_or-tab, chain_more, chain_same, all-at, and_both}
@@ -40,11 +39,6 @@ list_bytes_lem s l =
 -- an entry's bytes
 abbrev pub entry_bytes : List ℕ → ℕ → List ℕ
 entry_bytes v j = spell (at v j)
-
-pub version_bytes_lem : (v : List ℕ) (count : ℕ) → count ≤ length v → version_bytes (take count v) ≡ chain count (entry_bytes v)
-unfolding version_bytes
-version_bytes_lem v count h =
-    rw (length-take-le count v h) (chain_same count (entry_bytes (take count v)) (entry_bytes v) (λ j lt. ap spell (get_or-take count v j 0 lt)))
 
 -- what a body has behind its number, and behind its place
 abbrev pub after_number : ℕ → List ℕ → Body → List ℕ

@@ -10,12 +10,13 @@ use lib.ListN.{length, take, length-map, get_or-eq_default}
 use lib.Seq.{length-take-le, get_or-take}
 use lib.Dec.{leb, ltb}
 use borrow.Author.Tests.{leb-true, ltb-true}
+use Rattle.std.specs.Prelude.{Ok}
 use Rattle.refusal.specs.Refusal.{no}
 use Rattle.lists.specs.Lists.{at, joined}
 use Rattle.lists.proofs.Cases.{split}
 use Rattle.lists.proofs.Joined.{Each, each_none, each_more, joined-map}
 use Rattle.leb128.specs.Leb128.{last_number}
-use Rattle.telegram.specs.Reading.{Whole, whole, texts, fair}
+use Rattle.telegram.specs.Reading.{Whole, texts, fair}
 use Rattle.telegram.specs.Meaning.{EventBody, EventTelegram, BatchTelegram, SinceTelegram, body_of, heading_of, list_bytes, body_bytes, head_bytes, exception_bytes, event_bytes, batch_bytes, since_bytes, event_told, batch_told, since_told, GoodVersion, GoodBody, GoodHeading}
 use Rattle.telegram.specs.Writing.{part_fits, list_fits, list_spelt, body_spelt, event_spelt, head_spelt, exception_spelt}
 use Rattle.telegram.specs.declared.list.Names.{Names}
@@ -52,10 +53,10 @@ version-good count v few n h =
 
 -- ---- what is spelt fits, and its bytes are those of what it says
 
-list_written : (s : List ℕ) (l : Names) (x : List ℕ) → list_spelt s l ≡ whole x → (x ≡ list_bytes (texts s l)) × ListIs s l
+list_written : (s : List ℕ) (l : Names) (x : List ℕ) → list_spelt s l ≡ Ok x → (x ≡ list_bytes (texts s l)) × ListIs s l
 unfolding list_spelt
 list_written s l x e =
-    let i = if_whole (list_fits s l) (whole (list_bytes (texts s l))) (no 4) e in
+    let i = if_whole (list_fits s l) (Ok (list_bytes (texts s l))) (no 4) e in
     (sym (whole_same i.1), fits_list s l i.0)
 
 pub record BodyFits (count : ℕ) (s : List ℕ) (b : Body) : Type 0 where
@@ -63,21 +64,21 @@ pub record BodyFits (count : ℕ) (s : List ℕ) (b : Body) : Type 0 where
   pub listed : b.place.0 < count
   pub operation : PartIs 0 32 s b.operation
 
-body_written_lem : (count : ℕ) (s : List ℕ) (b : Body) (x : List ℕ) → body_spelt count s b ≡ whole x → (x ≡ body_bytes (body_of count s b)) × BodyFits count s b
+body_written_lem : (count : ℕ) (s : List ℕ) (b : Body) (x : List ℕ) → body_spelt count s b ≡ Ok x → (x ≡ body_bytes (body_of count s b)) × BodyFits count s b
 unfolding body_spelt
 body_written_lem count s b x e =
     let i = if_whole (leb count 16) _ (no 4) e in
     let j = if_whole (ltb b.place.0 count) _ (no 9) i.1 in
-    let k = if_whole (part_fits 0 32 s b.operation) (whole (body_bytes (body_of count s b))) (no 4) j.1 in (
+    let k = if_whole (part_fits 0 32 s b.operation) (Ok (body_bytes (body_of count s b))) (no 4) j.1 in (
       sym (whole_same k.1),
       record { few = leb-true count 16 i.0; listed = ltb-true b.place.0 count j.0; operation = fits_part 0 32 s b.operation k.0 },
     )
 
-exception_written : (count : ℕ) (e : Exception) (x : List ℕ) → exception_spelt count e ≡ whole x → (x ≡ exception_bytes e) × (e.place.0 < count)
+exception_written : (count : ℕ) (e : Exception) (x : List ℕ) → exception_spelt count e ≡ Ok x → (x ≡ exception_bytes e) × (e.place.0 < count)
 unfolding exception_spelt
 exception_written count e x h =
     let i = if_whole (leb count 16) _ (no 4) h in
-    let j = if_whole (ltb e.place.0 count) (whole (exception_bytes e)) (no 9) i.1 in
+    let j = if_whole (ltb e.place.0 count) (Ok (exception_bytes e)) (no 9) i.1 in
     (sym (whole_same j.1), ltb-true e.place.0 count j.0)
 
 body-good : (count : ℕ) (s : List ℕ) (b : Body) → BodyFits count s b → Numbers b → GoodBody count (body_of count s b)
@@ -88,8 +89,8 @@ body-good count s b f n = record {
   short = omega (arith, length-text s b.operation f.operation.within, f.operation.most);
 }
 
-all_written : {A : Type 0} (f : A → Whole (List ℕ)) (spelt : A → List ℕ) (Fit : A → Type 0) → ((a : A) (x : List ℕ) → f a ≡ whole x → (x ≡ spelt a) × Fit a)
-    → (l : List A) (rest : List ℕ) → all_spelt f l ≡ whole rest → (rest ≡ joined spelt l) × Each Fit l
+all_written : {A : Type 0} (f : A → Whole (List ℕ)) (spelt : A → List ℕ) (Fit : A → Type 0) → ((a : A) (x : List ℕ) → f a ≡ Ok x → (x ≡ spelt a) × Fit a)
+    → (l : List A) (rest : List ℕ) → all_spelt f l ≡ Ok rest → (rest ≡ joined spelt l) × Each Fit l
 unfolding all_spelt joined
 all_written f spelt Fit each [] rest e = (sym (whole_same e), each_none Fit)
 all_written f spelt Fit each (a ∷ l) rest e =
@@ -108,15 +109,15 @@ pub record Follows {A : Type 0} (k limit : ℕ) (s : List ℕ) (h : Head) (count
   pub same : bytes ≡ head_bytes k (heading_of s h) count ++ joined spelt l
 
 follows : {A : Type 0} (k limit : ℕ) (s : List ℕ) (h : Head) (count : ℕ) (f : A → Whole (List ℕ)) (spelt : A → List ℕ) (Fit : A → Type 0)
-    → ((a : A) (x : List ℕ) → f a ≡ whole x → (x ≡ spelt a) × Fit a)
-    → (l : List A) (bytes : List ℕ) → head_then (head_spelt k limit s h count) f l ≡ whole bytes → Follows k limit s h count spelt Fit l bytes
+    → ((a : A) (x : List ℕ) → f a ≡ Ok x → (x ≡ spelt a) × Fit a)
+    → (l : List A) (bytes : List ℕ) → head_then (head_spelt k limit s h count) f l ≡ Ok bytes → Follows k limit s h count spelt Fit l bytes
 unfolding head_spelt
 follows k limit s h count f spelt Fit each l bytes e =
     then_is (head_spelt k limit s h count) _ e (λ start eh e1.
     then_is (all_spelt f l) _ e1 (λ rest er e2.
     let i = if_whole (list_fits s h.names) _ (no 4) eh in
     let j = if_whole (ltb h.sender.0 h.names.count) _ (no 9) i.1 in
-    let m = if_whole (leb count limit) (whole (head_bytes k (heading_of s h) count)) (no 4) j.1 in
+    let m = if_whole (leb count limit) (Ok (head_bytes k (heading_of s h) count)) (no 4) j.1 in
     let r = all_written f spelt Fit each l rest er in
     record {
       list = fits_list s h.names i.0;
@@ -136,7 +137,7 @@ follows_good {s = s} {h} w e n =
 abbrev pub event_from : List ℕ → Names → List ℕ → Body → EventTelegram
 event_from t l s b = record { names = texts t l; body = body_of l.count s b }
 
-pub event_written : (t : List ℕ) (l : Names) (s : List ℕ) (b : Body) (bytes : List ℕ) → event_spelt t l s b ≡ whole bytes
+pub event_written : (t : List ℕ) (l : Names) (s : List ℕ) (b : Body) (bytes : List ℕ) → event_spelt t l s b ≡ Ok bytes
     → (bytes ≡ event_bytes (event_from t l s b)) × (ListIs t l × BodyFits l.count s b)
 unfolding event_spelt event_bytes
 event_written t l s b bytes e =
@@ -146,12 +147,12 @@ event_written t l s b bytes e =
     let y = body_written_lem l.count s b body eb in
     (sym (whole_same e2) ∙ rw (n.0, y.0), (n.1, y.1))))
 
-pub event_written_bytes : (t : List ℕ) (l : Names) (s : List ℕ) (b : Body) (bytes : List ℕ) → event_spelt t l s b ≡ whole bytes
+pub event_written_bytes : (t : List ℕ) (l : Names) (s : List ℕ) (b : Body) (bytes : List ℕ) → event_spelt t l s b ≡ Ok bytes
     → bytes ≡ event_bytes (event_from t l s b)
 event_written_bytes t l s b bytes e = (event_written t l s b bytes e).0
 
-pub event_written_read : (t : List ℕ) (l : Names) (s : List ℕ) (b : Body) (bytes : List ℕ) → event_spelt t l s b ≡ whole bytes → fair (texts t l) ≡ true → Numbers b
-    → event_told bytes ≡ whole (event_from t l s b)
+pub event_written_read : (t : List ℕ) (l : Names) (s : List ℕ) (b : Body) (bytes : List ℕ) → event_spelt t l s b ≡ Ok bytes → fair (texts t l) ≡ true → Numbers b
+    → event_told bytes ≡ Ok (event_from t l s b)
 event_written_read t l s b bytes e f n =
     let w = event_written t l s b bytes e in
     ap event_told w.0
@@ -164,14 +165,14 @@ abbrev pub batch_from : List ℕ → Head → List (List ℕ × Body) → BatchT
 batch_from s h l = record { heading = heading_of s h; bodies = map (λ p. body_of h.names.count p.0 p.1) l }
 
 pub batch_written_lem : (s : List ℕ) (h : Head) (count : ℕ) (l : List (List ℕ × Body)) (bytes : List ℕ)
-    → head_then (head_spelt 2 256 s h count) (λ p. body_spelt h.names.count p.0 p.1) l ≡ whole bytes
+    → head_then (head_spelt 2 256 s h count) (λ p. body_spelt h.names.count p.0 p.1) l ≡ Ok bytes
     → Follows 2 256 s h count (λ p. body_bytes (body_of h.names.count p.0 p.1)) (λ p. BodyFits h.names.count p.0 p.1) l bytes
 batch_written_lem s h count l bytes e =
     let n = h.names.count in
     follows 2 256 s h count (λ p. body_spelt n p.0 p.1) (λ p. body_bytes (body_of n p.0 p.1)) (λ p. BodyFits n p.0 p.1) (λ p. body_written_lem n p.0 p.1) l bytes e
 
 pub batch_written_bytes : (s : List ℕ) (h : Head) (l : List (List ℕ × Body)) (bytes : List ℕ)
-    → head_then (head_spelt 2 256 s h (length l)) (λ p. body_spelt h.names.count p.0 p.1) l ≡ whole bytes
+    → head_then (head_spelt 2 256 s h (length l)) (λ p. body_spelt h.names.count p.0 p.1) l ≡ Ok bytes
     → bytes ≡ batch_bytes (batch_from s h l)
 unfolding batch_bytes
 batch_written_bytes s h l bytes e =
@@ -179,8 +180,8 @@ batch_written_bytes s h l bytes e =
     (batch_written_lem s h (length l) l bytes e).same ∙ rw (length-map l says, joined-map body_bytes says l)
 
 pub batch_written_read : (s : List ℕ) (h : Head) (l : List (List ℕ × Body)) (bytes : List ℕ)
-    → head_then (head_spelt 2 256 s h (length l)) (λ p. body_spelt h.names.count p.0 p.1) l ≡ whole bytes → fair (texts s h.names) ≡ true
-    → HeadNumbers h → ((p : List ℕ × Body) → Memᴰ p l → Numbers p.1) → batch_told bytes ≡ whole (batch_from s h l)
+    → head_then (head_spelt 2 256 s h (length l)) (λ p. body_spelt h.names.count p.0 p.1) l ≡ Ok bytes → fair (texts s h.names) ≡ true
+    → HeadNumbers h → ((p : List ℕ × Body) → Memᴰ p l → Numbers p.1) → batch_told bytes ≡ Ok (batch_from s h l)
 batch_written_read s h l bytes e f n each =
     let w = batch_written_lem s h (length l) l bytes e in
     let says : List ℕ × Body → EventBody = λ p. body_of h.names.count p.0 p.1 in
@@ -201,19 +202,19 @@ abbrev pub since_from : List ℕ → Head → List Exception → SinceTelegram
 since_from s h l = record { heading = heading_of s h; exceptions = l }
 
 pub since_written : (s : List ℕ) (h : Head) (count : ℕ) (l : List Exception) (bytes : List ℕ)
-    → head_then (head_spelt 3 64 s h count) (exception_spelt h.names.count) l ≡ whole bytes
+    → head_then (head_spelt 3 64 s h count) (exception_spelt h.names.count) l ≡ Ok bytes
     → Follows 3 64 s h count exception_bytes (λ e. e.place.0 < h.names.count) l bytes
 since_written s h count l bytes e =
     follows 3 64 s h count (exception_spelt h.names.count) exception_bytes (λ e. e.place.0 < h.names.count) (exception_written h.names.count) l bytes e
 
 pub since_written_bytes : (s : List ℕ) (h : Head) (l : List Exception) (bytes : List ℕ)
-    → head_then (head_spelt 3 64 s h (length l)) (exception_spelt h.names.count) l ≡ whole bytes → bytes ≡ since_bytes (since_from s h l)
+    → head_then (head_spelt 3 64 s h (length l)) (exception_spelt h.names.count) l ≡ Ok bytes → bytes ≡ since_bytes (since_from s h l)
 unfolding since_bytes
 since_written_bytes s h l bytes e = (since_written s h (length l) l bytes e).same
 
 pub since_written_read : (s : List ℕ) (h : Head) (l : List Exception) (bytes : List ℕ)
-    → head_then (head_spelt 3 64 s h (length l)) (exception_spelt h.names.count) l ≡ whole bytes → fair (texts s h.names) ≡ true
-    → HeadNumbers h → ((e : Exception) → Memᴰ e l → e.number ≤ last_number) → since_told bytes ≡ whole (since_from s h l)
+    → head_then (head_spelt 3 64 s h (length l)) (exception_spelt h.names.count) l ≡ Ok bytes → fair (texts s h.names) ≡ true
+    → HeadNumbers h → ((e : Exception) → Memᴰ e l → e.number ≤ last_number) → since_told bytes ≡ Ok (since_from s h l)
 since_written_read s h l bytes e f n each =
     let w = since_written s h (length l) l bytes e in
     ap since_told (since_written_bytes s h l bytes e)

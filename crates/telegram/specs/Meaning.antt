@@ -1,10 +1,11 @@
 -- What a telegram says, wherever its fields stand, and its bytes. Assumes nothing.
-use Rattle.std.specs.Prelude.{ℕ, ◌≤◌, ◌<◌, ◌≡◌, true, length, take, get_or}
+use Rattle.std.specs.Prelude.{ℕ, ◌≤◌, ◌<◌, ◌≡◌, true, Ok, Err, length, take, get_or}
 use mathlib.Core.List.{List, [], ◌++◌, map, Memᴰ}
 use Rattle.lists.specs.Lists.{at, chain, joined}
-use Rattle.leb128.specs.Leb128.{spell, last_number}
-use Rattle.telegram.specs.Fields.{Got, got, bad, text, many}
-use Rattle.telegram.specs.Reading.{Whole, whole, refused, then, texts, fair, body, exception, event, batch, since}
+use Rattle.refusal.specs.Refusal.{then}
+use Rattle.leb128.specs.Leb128.{Read, spell, last_number}
+use Rattle.telegram.specs.Fields.{text, many}
+use Rattle.telegram.specs.Reading.{Whole, texts, fair, body, exception, event, batch, since}
 use Rattle.telegram.specs.declared.body.Body.{Body}
 use Rattle.telegram.specs.declared.event.Event.{Event}
 use Rattle.telegram.specs.declared.head.Head.{Head}
@@ -85,24 +86,24 @@ since_bytes t = head_bytes 3 t.heading (length t.exceptions) ++ joined exception
 
 -- ---- what a telegram says, or why it is refused
 
-abbrev pub found : {A : Type 0} → Got A → Whole A
-found (got a next) = whole a
-found (bad k) = refused k
+abbrev pub found : {A : Type 0} → Read A → Whole A
+found (Ok g) = Ok g.value
+found (Err k) = Err k
 
 unfoldable pub event_told : List ℕ → Whole EventTelegram
-event_told s = then (event s) (λ e. whole (event_of s e))
+event_told s = then (event s) (λ e. Ok (event_of s e))
 
 unfoldable pub batch_told : List ℕ → Whole BatchTelegram
 batch_told s =
     then (batch s) (λ b.
     then (found (many b.count (body b.head.names.count s) b.bodies)) (λ l.
-    whole (record { heading = heading_of s b.head; bodies = map (body_of b.head.names.count s) l })))
+    Ok (record { heading = heading_of s b.head; bodies = map (body_of b.head.names.count s) l })))
 
 unfoldable pub since_told : List ℕ → Whole SinceTelegram
 since_told s =
     then (since s) (λ r.
     then (found (many r.count (exception r.head.names.count s) r.exceptions)) (λ l.
-    whole (record { heading = heading_of s r.head; exceptions = l })))
+    Ok (record { heading = heading_of s r.head; exceptions = l })))
 
 -- ---- the telegrams that there are: document 01's section Room
 

@@ -1,27 +1,19 @@
 -- Telegrams as they are read, from document 01's section Telegrams. Bytes are answered as parts of the telegram. Assumes nothing.
-use Rattle.std.specs.Prelude.{ℕ, ◌+◌, ◌≤◌, ◌<◌, Bool, cond, not, ◌&&◌, List, [], length, get_or, leb, eqb}
+use Rattle.std.specs.Prelude.{ℕ, ◌+◌, ◌≤◌, ◌<◌, Bool, cond, not, ◌&&◌, Result, Ok, Err, List, [], length, get_or, leb, eqb}
 use Rattle.refusal.specs.declared.Refusal.{Refusal}
-use Rattle.refusal.specs.declared.Outcome.TheVariants as outcome
-use Rattle.refusal.specs.Refusal.{no}
+use Rattle.refusal.specs.Refusal.{no, then}
 use Rattle.lists.specs.Lists.{at, tab, all}
-use Rattle.telegram.specs.Fields.{Got, got, bad, after, number, kind, counted, placed, sized, text, many}
+use Rattle.leb128.specs.Leb128.{Read, got}
+use Rattle.telegram.specs.Fields.{after, number, kind, counted, placed, sized, text, many}
 use Rattle.telegram.specs.declared.field.Part.{Part}
 use Rattle.telegram.specs.declared.list.Names.{Names}
-use Rattle.telegram.specs.declared.list.ListRead.{ListRead}
 use Rattle.telegram.specs.declared.body.Body.{Body}
-use Rattle.telegram.specs.declared.body.EntriesRead.{EntriesRead}
-use Rattle.telegram.specs.declared.body.BodyRead.{BodyRead}
 use Rattle.telegram.specs.declared.event.Event.{Event}
-use Rattle.telegram.specs.declared.event.EventRead.{EventRead}
 use Rattle.telegram.specs.declared.head.Head.{Head}
-use Rattle.telegram.specs.declared.head.HeadRead.{HeadRead}
+use Rattle.telegram.specs.declared.items.Items.{Items}
 use Rattle.telegram.specs.declared.batch.Batch.{Batch}
-use Rattle.telegram.specs.declared.batch.BatchRead.{BatchRead}
 use Rattle.telegram.specs.declared.since.Exception.{Exception}
-use Rattle.telegram.specs.declared.since.ExceptionRead.{ExceptionRead}
-use Rattle.telegram.specs.declared.since.ExceptionRead.TheVariants as exceptionRead
 use Rattle.telegram.specs.declared.since.Since.{Since}
-use Rattle.telegram.specs.declared.since.SinceRead.{SinceRead}
 
 -- ---- a list: count 1 to 16, then each name as length and bytes
 
@@ -35,44 +27,42 @@ nowhere = record { start = 0; len = 0 }
 abbrev pub names_of : List Part → Names
 names_of l = record { count = length l; parts = filled nowhere l }
 
-unfoldable pub names : ℕ → List ℕ → ℕ → Got Names
+abbrev pub no_names : Names
+no_names = names_of []
+
+unfoldable pub names : ℕ → List ℕ → ℕ → Read Names
 names count s at = after (many count (sized 1 16 s) at) (λ l next. got (names_of l) next)
 
-unfoldable pub list : List ℕ → ℕ → Got Names
+unfoldable pub list : List ℕ → ℕ → Read Names
 list s at = after (counted 1 16 s at) (λ count next. names count s next)
 
 -- ---- an event body: origin's place in that list, number, one version entry per listed name, operation length, operation
 
 -- a member that isn't listed has entry 0
-unfoldable pub entries : ℕ → List ℕ → ℕ → Got (List ℕ)
+unfoldable pub entries : ℕ → List ℕ → ℕ → Read (List ℕ)
 entries count s at = after (many count (number s) at) (λ l next. got (filled 0 l) next)
 
-abbrev pub body_rest : ℕ → List ℕ → ℕ → ℕ → ℕ → Got Body
+abbrev pub body_rest : ℕ → List ℕ → ℕ → ℕ → ℕ → Read Body
 body_rest count s at place n =
     after (entries count s at) (λ version c.
     after (sized 0 32 s c) (λ operation next.
     got (record { place = record { 0 = place }; number = n; entries = version; operation = operation }) next))
 
-unfoldable pub body : ℕ → List ℕ → ℕ → Got Body
+unfoldable pub body : ℕ → List ℕ → ℕ → Read Body
 body count s at = after (placed count s at) (λ place a. after (number s a) (λ n b. body_rest count s b place n))
 
 -- a body by itself: 4 where its list would have more than 16 names
-abbrev pub body_at : ℕ → List ℕ → ℕ → Got Body
-body_at count s at = cond (leb count 16) (body count s at) (bad (no 4))
+abbrev pub body_at : ℕ → List ℕ → ℕ → Read Body
+body_at count s at = cond (leb count 16) (body count s at) (Err (no 4))
 
 -- ---- a whole telegram: its fields, then 5 where bytes follow, then 6 over the whole list
 
-pub data Whole (A : Type 0) : Type 0 where
-  whole : A → Whole A
-  refused : Refusal → Whole A
+abbrev pub Whole : Type 0 → Type 0
+Whole A = Result A Refusal
 
-abbrev pub then : {A B : Type 0} → Whole A → (A → Whole B) → Whole B
-then (whole a) f = f a
-then (refused k) f = refused k
-
-abbrev pub ended : {A : Type 0} → List ℕ → Got A → Whole A
-ended s (got a next) = cond (eqb next (length s)) (whole a) (refused (no 5))
-ended s (bad k) = refused k
+abbrev pub ended : {A : Type 0} → List ℕ → Read A → Whole A
+ended s (Ok g) = cond (eqb g.next (length s)) (Ok g.value) (Err (no 5))
+ended s (Err k) = Err k
 
 -- the names of a list as bytes
 unfoldable pub texts : List ℕ → Names → List (List ℕ)
@@ -98,7 +88,7 @@ unfoldable pub fair : List (List ℕ) → Bool
 fair l = all (length l) (fair_at l)
 
 abbrev pub fairly : {A : Type 0} → List ℕ → (A → Names) → Whole A → Whole A
-fairly s namesIn w = then w (λ a. cond (fair (texts s (namesIn a))) (whole a) (refused (no 6)))
+fairly s namesIn w = then w (λ a. cond (fair (texts s (namesIn a))) (Ok a) (Err (no 6)))
 
 -- ---- an event: 1, list, event body
 
@@ -115,91 +105,58 @@ event s = fairly s (λ (e : Event). e.names) (event_form s)
 
 -- ---- what batch and since begin with: kind, list, sender's place, sender's version
 
-abbrev pub head_rest : List ℕ → ℕ → Names → Got Head
+abbrev pub head_rest : List ℕ → ℕ → Names → Read Head
 head_rest s at l =
     after (placed l.count s at) (λ sender c.
     after (entries l.count s c) (λ version next.
     got (record { names = l; sender = record { 0 = sender }; entries = version }) next))
 
-unfoldable pub head : ℕ → List ℕ → Got Head
+unfoldable pub head : ℕ → List ℕ → Read Head
 head k s = after (kind k s 0) (λ _ a. after (list s a) (λ l b. head_rest s b l))
+
+-- ---- what batch and since share: behind a head a count up to a limit and so many things, of which the place of the first is kept
+
+abbrev pub items_rest : {A B : Type 0} → ℕ → (ℕ → List ℕ → ℕ → Read A) → (Head → ℕ → ℕ → B) → List ℕ → ℕ → Head → Read B
+items_rest limit f make s at h =
+    after (counted 0 limit s at) (λ count b.
+    after (many count (f h.names.count s) b) (λ _ next.
+    got (make h count b) next))
+
+-- a telegram of kind k, whose things f reads; what is made of its head, its count and that place
+abbrev pub items_form : {A B : Type 0} → ℕ → ℕ → (ℕ → List ℕ → ℕ → Read A) → (Head → ℕ → ℕ → B) → List ℕ → Whole B
+items_form k limit f make s = ended s (after (head k s) (λ h a. items_rest limit f make s a h))
+
+abbrev pub items_of : Head → ℕ → ℕ → Items
+items_of h count start = record { head = h; count = count; start = start }
+
+-- its form, then its names
+abbrev pub items : {A : Type 0} → ℕ → ℕ → (ℕ → List ℕ → ℕ → Read A) → List ℕ → Whole Items
+items k limit f s = fairly s (λ (i : Items). i.head.names) (items_form k limit f items_of s)
 
 -- ---- a batch: 2, list, sender's place, sender's version, count, event bodies
 
-abbrev pub batch_rest : List ℕ → ℕ → Head → Got Batch
-batch_rest s at h =
-    after (counted 0 256 s at) (λ count b.
-    after (many count (body h.names.count s) b) (λ _ next.
-    got (record { head = h; count = count; bodies = b }) next))
+abbrev pub batch_of : Head → ℕ → ℕ → Batch
+batch_of h count start = record { head = h; count = count; bodies = start }
 
 unfoldable pub batch_form : List ℕ → Whole Batch
-batch_form s = ended s (after (head 2 s) (λ h a. batch_rest s a h))
+batch_form s = items_form 2 256 body batch_of s
 
 abbrev pub batch : List ℕ → Whole Batch
 batch s = fairly s (λ (b : Batch). b.head.names) (batch_form s)
 
 -- ---- a since: 3, list, sender's place, sender's version, count, pairs of place and number
 
-unfoldable pub exception : ℕ → List ℕ → ℕ → Got Exception
+unfoldable pub exception : ℕ → List ℕ → ℕ → Read Exception
 exception count s at =
     after (placed count s at) (λ place a.
     after (number s a) (λ n next.
     got (record { place = record { 0 = place }; number = n }) next))
 
-abbrev pub since_rest : List ℕ → ℕ → Head → Got Since
-since_rest s at h =
-    after (counted 0 64 s at) (λ count b.
-    after (many count (exception h.names.count s) b) (λ _ next.
-    got (record { head = h; count = count; exceptions = b }) next))
+abbrev pub since_of : Head → ℕ → ℕ → Since
+since_of h count start = record { head = h; count = count; exceptions = start }
 
 unfoldable pub since_form : List ℕ → Whole Since
-since_form s = ended s (after (head 3 s) (λ h a. since_rest s a h))
+since_form s = items_form 3 64 exception since_of s
 
 abbrev pub since : List ℕ → Whole Since
 since s = fairly s (λ (r : Since). r.head.names) (since_form s)
-
--- ---- the answers as structs: where a telegram is refused, everything but the refusal is zero
-
-abbrev pub no_entries : List ℕ
-no_entries = filled 0 []
-
-abbrev pub no_names : Names
-no_names = names_of []
-
-abbrev pub no_body : Body
-no_body = record { place = record { 0 = 0 }; number = 0; entries = no_entries; operation = nowhere }
-
-abbrev pub no_head : Head
-no_head = record { names = no_names; sender = record { 0 = 0 }; entries = no_entries }
-
-abbrev pub list_read : Got Names → ListRead
-list_read (got l next) = record { outcome = outcome.Done; names = l; next = next }
-list_read (bad k) = record { outcome = outcome.Refused k; names = no_names; next = 0 }
-
-abbrev pub entries_read : Got (List ℕ) → EntriesRead
-entries_read (got l next) = record { outcome = outcome.Done; entries = l; next = next }
-entries_read (bad k) = record { outcome = outcome.Refused k; entries = no_entries; next = 0 }
-
-abbrev pub body_read : Got Body → BodyRead
-body_read (got b next) = record { outcome = outcome.Done; body = b; next = next }
-body_read (bad k) = record { outcome = outcome.Refused k; body = no_body; next = 0 }
-
-abbrev pub head_read : Got Head → HeadRead
-head_read (got h next) = record { outcome = outcome.Done; head = h; next = next }
-head_read (bad k) = record { outcome = outcome.Refused k; head = no_head; next = 0 }
-
-abbrev pub event_read : Whole Event → EventRead
-event_read (whole e) = record { outcome = outcome.Done; event = e }
-event_read (refused k) = record { outcome = outcome.Refused k; event = record { names = no_names; body = no_body } }
-
-abbrev pub batch_read : Whole Batch → BatchRead
-batch_read (whole b) = record { outcome = outcome.Done; batch = b }
-batch_read (refused k) = record { outcome = outcome.Refused k; batch = record { head = no_head; count = 0; bodies = 0 } }
-
-abbrev pub since_read : Whole Since → SinceRead
-since_read (whole r) = record { outcome = outcome.Done; since = r }
-since_read (refused k) = record { outcome = outcome.Refused k; since = record { head = no_head; count = 0; exceptions = 0 } }
-
-abbrev pub exception_told : ExceptionRead → Got Exception
-exception_told (exceptionRead.Found e next) = got e next
-exception_told (exceptionRead.Refused k) = bad k

@@ -1,18 +1,12 @@
 -- Telegrams as they are written into a lent buffer, from document 01's sections Room and Telegrams. Assumes nothing.
-use Rattle.std.specs.Prelude.{ℕ, ◌+◌, ◌≤◌, ◌≡◌, Bool, cond, ◌&&◌, List, ◌++◌, length, get_or, leb, ltb}
-use Rattle.refusal.specs.declared.Outcome.{Outcome}
-use Rattle.refusal.specs.declared.Outcome.TheVariants as outcome
-use Rattle.refusal.specs.Refusal.{no}
+use Rattle.std.specs.Prelude.{ℕ, ◌+◌, ◌≤◌, ◌≡◌, Bool, cond, ◌&&◌, Ok, Err, List, ◌++◌, length, get_or, leb, ltb}
+use Rattle.refusal.specs.Refusal.{no, then}
 use Rattle.lists.specs.Lists.{all, chain, laid}
-use Rattle.leb128.specs.declared.Written.{Written}
-use Rattle.leb128.specs.declared.Written.TheVariants as written
 use Rattle.leb128.specs.Leb128.{spell}
 use Rattle.telegram.specs.Fields.{text}
-use Rattle.telegram.specs.Reading.{Whole, whole, refused, then, nowhere, texts, fair}
+use Rattle.telegram.specs.Reading.{Whole, nowhere, texts, fair}
 use Rattle.telegram.specs.Meaning.{sized_bytes, list_bytes, body_bytes, head_bytes, exception_bytes, body_of, heading_of}
 use Rattle.telegram.specs.declared.field.Part.{Part}
-use Rattle.telegram.specs.declared.field.Width.{Width}
-use Rattle.telegram.specs.declared.field.Width.TheVariants as width
 use Rattle.telegram.specs.declared.list.Names.{Names}
 use Rattle.telegram.specs.declared.body.Body.{Body}
 use Rattle.telegram.specs.declared.head.Head.{Head}
@@ -32,44 +26,44 @@ list_fits s l = (leb 1 l.count && leb l.count 16) && all l.count (λ i. part_fit
 abbrev pub names_spelt : List ℕ → Names → ℕ → Whole (List ℕ)
 names_spelt s l count =
     cond (all count (λ i. part_fits 1 16 s (get_or l.parts i nowhere)))
-    (whole (chain count (λ i. sized_bytes (text s (get_or l.parts i nowhere)))))
-    (refused (no 4))
+    (Ok (chain count (λ i. sized_bytes (text s (get_or l.parts i nowhere)))))
+    (Err (no 4))
 
 unfoldable pub list_spelt : List ℕ → Names → Whole (List ℕ)
-list_spelt s l = cond (list_fits s l) (whole (list_bytes (texts s l))) (refused (no 4))
+list_spelt s l = cond (list_fits s l) (Ok (list_bytes (texts s l))) (Err (no 4))
 
 -- a list of names by itself: 4, then 6
-abbrev pub list_judged : List ℕ → Names → Outcome
-list_judged s l = cond (list_fits s l) (cond (fair (texts s l)) outcome.Done (outcome.Refused (no 6))) (outcome.Refused (no 4))
+abbrev pub list_judged : List ℕ → Names → Whole Unit
+list_judged s l = cond (list_fits s l) (cond (fair (texts s l)) (Ok tt) (Err (no 6))) (Err (no 4))
 
 unfoldable pub body_spelt : ℕ → List ℕ → Body → Whole (List ℕ)
 body_spelt count s b =
     cond (leb count 16)
     (cond (ltb b.place.0 count)
-    (cond (part_fits 0 32 s b.operation) (whole (body_bytes (body_of count s b))) (refused (no 4)))
-    (refused (no 9)))
-    (refused (no 4))
+    (cond (part_fits 0 32 s b.operation) (Ok (body_bytes (body_of count s b))) (Err (no 4)))
+    (Err (no 9)))
+    (Err (no 4))
 
 unfoldable pub event_spelt : List ℕ → Names → List ℕ → Body → Whole (List ℕ)
-event_spelt t l s b = then (list_spelt t l) (λ names. then (body_spelt l.count s b) (λ body. whole (spell 1 ++ (names ++ body))))
+event_spelt t l s b = then (list_spelt t l) (λ names. then (body_spelt l.count s b) (λ body. Ok (spell 1 ++ (names ++ body))))
 
 -- kind, list, sender's place, sender's version, count up to its limit
 unfoldable pub head_spelt : ℕ → ℕ → List ℕ → Head → ℕ → Whole (List ℕ)
 head_spelt k limit s h count =
     cond (list_fits s h.names)
     (cond (ltb h.sender.0 h.names.count)
-    (cond (leb count limit) (whole (head_bytes k (heading_of s h) count)) (refused (no 4)))
-    (refused (no 9)))
-    (refused (no 4))
+    (cond (leb count limit) (Ok (head_bytes k (heading_of s h) count)) (Err (no 4)))
+    (Err (no 9)))
+    (Err (no 4))
 
 unfoldable pub exception_spelt : ℕ → Exception → Whole (List ℕ)
 exception_spelt count e =
-    cond (leb count 16) (cond (ltb e.place.0 count) (whole (exception_bytes e)) (refused (no 9))) (refused (no 4))
+    cond (leb count 16) (cond (ltb e.place.0 count) (Ok (exception_bytes e)) (Err (no 9))) (Err (no 4))
 
 -- how many bytes that is
-abbrev pub measured : Whole (List ℕ) → Width
-measured (whole b) = width.Is (length b)
-measured (refused k) = width.Refused k
+abbrev pub measured : Whole (List ℕ) → Whole ℕ
+measured (Ok b) = Ok (length b)
+measured (Err k) = Err k
 
 -- ---- the buffer
 
@@ -78,16 +72,16 @@ abbrev pub room_for : List ℕ → ℕ → List ℕ → ℕ → Bool
 room_for out at b behind = leb (at + (length b + behind)) (length out)
 
 -- what writing at a place answers: the place behind, or why nothing was written; 15 where the buffer is too short
-abbrev pub write_at : List ℕ → ℕ → ℕ → Whole (List ℕ) → Written
-write_at out at behind (whole b) = cond (room_for out at b behind) (written.Next (at + length b)) (written.Refused (no 15))
-write_at out at behind (refused k) = written.Refused k
+abbrev pub write_at : List ℕ → ℕ → ℕ → Whole (List ℕ) → Whole ℕ
+write_at out at behind (Ok b) = cond (room_for out at b behind) (Ok (at + length b)) (Err (no 15))
+write_at out at behind (Err k) = Err k
 
 abbrev pub bytes_at : List ℕ → ℕ → ℕ → Whole (List ℕ) → List ℕ
-bytes_at out at behind (whole b) = cond (room_for out at b behind) (laid out at b) out
-bytes_at out at behind (refused k) = out
+bytes_at out at behind (Ok b) = cond (room_for out at b behind) (laid out at b) out
+bytes_at out at behind (Err k) = out
 
 -- the answer and the buffer afterwards, for bytes at a place with as many more to come behind them
-pub record Wrote (out after : List ℕ) (at behind : ℕ) (what : Whole (List ℕ)) (answer : Written) : Type 0 where
+pub record Wrote (out after : List ℕ) (at behind : ℕ) (what : Whole (List ℕ)) (answer : Whole ℕ) : Type 0 where
   pub answers : answer ≡ write_at out at behind what
   pub holds : after ≡ bytes_at out at behind what
 

@@ -6,5 +6,6 @@ pub mod body;
 pub mod event;
 pub mod field;
 pub mod head;
+pub mod items;
 pub mod list;
 pub mod since;

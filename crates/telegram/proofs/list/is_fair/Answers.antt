@@ -1,17 +1,15 @@
-use mathlib.Core.Path.{sym, ◌∙◌}
-use borrow.Author.Tests.{not-true, not-false}
-use Rattle.lists.proofs.Turns.{pass_none, pass_more, pass_fails, pass_all}
-use Rattle.telegram.proofs.Fair.{fair-all}
+use native.Mathlib.Omega.{arith}
+use mathlib.Core.Path.{refl, sym, ◌∙◌}
+use Rattle.std.proofs.Common.{rules, tests}
+use Rattle.std.proofs.lemmas.Iterator.{YieldsList-from_range}
+use Rattle.std.proofs.lemmas.Iterator.Search.{all_from_yields_List}
+use Rattle.telegram.specs.Reading.{texts, fair_at}
+use Rattle.telegram.proofs.Fair.{all-counted, fair-all}
 use Rattle.telegram.proofs.list.is_fair.Goals as goal
 
-pub loop-i-init : goal.loop-i-init
-loop-i-init c = pass_none
-
-pub returns-then-not-is_fair_at : goal.returns-then-not-is_fair_at
-returns-then-not-is_fair_at c = rw (fair-all _ c.args.names) (sym (pass_fails c.loop-i.invariant c.loop-i-test.true (sym c.is_fair_at.ensures ∙ not-true _ c.if-not-is_fair_at.true-raw)))
-
-pub loop-i-preserved : goal.loop-i-preserved
-loop-i-preserved c = pass_more c.loop-i.invariant c.loop-i-test.true (sym c.is_fair_at.ensures ∙ not-false _ c.if-not-is_fair_at.false-raw)
-
 pub returns : goal.returns
-returns c = rw (fair-all _ c.args.names) (sym (pass_all c.loop-i.invariant c.loop-i-test.false))
+returns c =
+    let l = c.args.names.now in
+    let s = c.args.s.now in
+    all_from_yields_List (fair_at (texts s l)) _ _ _ c.all.ensures.ran (YieldsList-from_range 0 l.count l.count refl (omega arith)) (λ x b q k. search (rules, tests))
+    ∙ (all-counted (fair_at (texts s l)) l.count ∙ sym (fair-all s l))

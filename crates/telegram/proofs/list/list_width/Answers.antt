@@ -1,26 +1,27 @@
 use native.Mathlib.Omega.{arith}
+use borrow.Author.Rules.{rules}
 use borrow.Author.Tests.{lt-leb, le-leb}
 use Rattle.telegram.specs.Writing.{list_spelt, list_fits}
 use Rattle.telegram.proofs.Spelt.{list-measured, names_small}
 use Rattle.telegram.proofs.list.list_width.Goals as goal
+use Rattle.telegram.proofs.list.list_width.Goals.{then-names-lt1-via-then-names-lt1, then-names-lt1-via-else-names-lt1+then-names-gt-MEMBERS}
 
-pub returns-then-count-lt1 : goal.returns-then-count-lt1
+pub returns-then-names-lt1 : goal.returns-then-names-lt1
 unfolding list_spelt list_fits
-returns-then-count-lt1 c = rw (lt-leb _ _ c.if-count-lt1.true)
+returns-then-names-lt1 c =
+    elim c.then-names-lt1.branch [
+      | then-names-lt1-via-then-names-lt1 w ↦ rw (lt-leb _ _ w.if-names-lt1.true)
+      | then-names-lt1-via-else-names-lt1+then-names-gt-MEMBERS w ↦ rw (le-leb _ _ w.if-names-lt1.false, lt-leb _ _ w.if-names-gt-MEMBERS.true)
+    ]
 
-pub returns-then-count-gt-MEMBERS : goal.returns-then-count-gt-MEMBERS
-unfolding list_spelt list_fits
-returns-then-count-gt-MEMBERS c = rw (le-leb _ _ c.if-count-lt1.false, lt-leb _ _ c.if-count-gt-MEMBERS.true)
+pub returns-in_err-sum : goal.returns-in_err-sum
+returns-in_err-sum c =
+    rw (← list-measured c.args.s.now c.args.names.now c.if-names-lt1.false c.if-names-gt-MEMBERS.false c.names_width.ensures c.in_err-sum.was) (search rules)
 
 pub overflow_add-result : goal.overflow_add-result
 overflow_add-result c =
-    let a = c.args in
-    omega (arith, names_small a.s.now a.names a.names.count c.if-count-gt-MEMBERS.false c.names_width.ensures c.in-Is.is)
+    let l = c.args.names.now in
+    omega (arith, names_small c.args.s.now l l.count c.if-names-gt-MEMBERS.false c.names_width.ensures c.in_ok-sum.was)
 
-pub returns-in-Refused : goal.returns-in-Refused
-returns-in-Refused c =
-    list-measured c.args.s.now c.args.names c.if-count-lt1.false c.if-count-gt-MEMBERS.false c.names_width.ensures c.in-Refused.is
-
-pub returns-in-Is : goal.returns-in-Is
-returns-in-Is c =
-    list-measured c.args.s.now c.args.names c.if-count-lt1.false c.if-count-gt-MEMBERS.false c.names_width.ensures c.in-Is.is
+pub returns : goal.returns
+returns c = list-measured c.args.s.now c.args.names.now c.if-names-lt1.false c.if-names-gt-MEMBERS.false c.names_width.ensures c.in_ok-sum.was

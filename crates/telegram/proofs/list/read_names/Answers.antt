@@ -1,23 +1,19 @@
-use mathlib.Core.Path.{sym, ap, ◌∙◌}
+use mathlib.Core.Path.{sym, ◌∙◌}
+use borrow.Author.Rules.{rules}
+use Rattle.lists.proofs.Laws.{tab-same}
+use Rattle.telegram.specs.Reading.{names, nowhere}
 use Rattle.telegram.proofs.Walks.{fill_none, fill_more, fill_bad, fill_all}
-use Rattle.telegram.specs.Fields.{part_told}
-use Rattle.telegram.specs.Reading.{names}
-use Rattle.telegram.proofs.Inside.{sized_inside}
-use native.Mathlib.Omega.{arith}
 use Rattle.telegram.proofs.list.read_names.Goals as goal
 
 pub loop-i-init : goal.loop-i-init
-loop-i-init c = fill_none c.requires _ c.no_parts-parts.ensures
+loop-i-init c = fill_none c.requires _ (tab-same 16 nowhere)
 
-pub returns-in-Refused : goal.returns-in-Refused
+pub returns-in_err-name : goal.returns-in_err-name
 unfolding names
-returns-in-Refused c = rw (c.list_refused.ensures, fill_bad c.loop-i.invariant c.loop-i-test.true (sym c.read_sized.ensures ∙ ap part_told c.in-Refused.is))
-
-pub overflow_add-next : goal.overflow_add-next
-overflow_add-next c = omega (arith, sized_inside _ _ _ _ _ _ (sym c.read_sized.ensures ∙ ap part_told c.in-Found.is))
+returns-in_err-name c = rw (fill_bad c.loop-i.invariant c.loop-i-test.true (sym c.read_sized.ensures ∙ c.in_err-name.was)) (search rules)
 
 pub loop-i-preserved : goal.loop-i-preserved
-loop-i-preserved c = fill_more c.loop-i.invariant c.loop-i-test.true (sym c.read_sized.ensures ∙ ap part_told c.in-Found.is)
+loop-i-preserved c = fill_more c.loop-i.invariant c.loop-i-test.true (sym c.read_sized.ensures ∙ c.in_ok-name.was)
 
 pub returns : goal.returns
 unfolding names

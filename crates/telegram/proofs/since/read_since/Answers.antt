@@ -1,16 +1,15 @@
-use mathlib.Core.Path.{refl}
-use Rattle.telegram.proofs.Told.{since_told_lem}
-use Rattle.telegram.proofs.Inside.{since-names}
+use mathlib.Core.Path.{sym, ap, ◌∙◌}
+use borrow.Author.Rules.{rules}
+use Rattle.std.specs.Prelude.{Ok}
+use Rattle.refusal.specs.Refusal.{then}
+use Rattle.telegram.specs.Reading.{Whole}
+use Rattle.telegram.specs.declared.items.Items.{Items}
+use Rattle.telegram.proofs.Made.{as_since, since_made}
 use Rattle.telegram.proofs.since.read_since.Goals as goal
 
-pub is_fair-requires : goal.is_fair-requires
-is_fair-requires c = since-names _ c.read_form-r.ensures c.in-Done.is
+pub returns-in_err-items : goal.returns-in_err-items
+returns-in_err-items c =
+    rw (since_made c.args.s.now ∙ ap (λ (w : Whole Items). then w (λ i. Ok (as_since i))) (sym c.read_items.ensures ∙ c.in_err-items.was)) (search rules)
 
-pub returns-in-Refused : goal.returns-in-Refused
-returns-in-Refused c = rw (c.since_refused.ensures, ← since_told_lem _ c.read_form-r.ensures, c.in-Refused.is) refl
-
-pub returns-then-is_fair : goal.returns-then-is_fair
-returns-then-is_fair c = rw (← since_told_lem _ c.read_form-r.ensures, c.in-Done.is, ← c.is_fair.ensures, c.if-is_fair.true) refl
-
-pub returns-else-is_fair : goal.returns-else-is_fair
-returns-else-is_fair c = rw (c.since_refused-else-is_fair.ensures, ← since_told_lem _ c.read_form-r.ensures, c.in-Done.is, ← c.is_fair.ensures, c.if-is_fair.false) refl
+pub returns : goal.returns
+returns c = sym (since_made c.args.s.now ∙ ap (λ (w : Whole Items). then w (λ i. Ok (as_since i))) (sym c.read_items.ensures ∙ c.in_ok-items.was))

@@ -1,5 +1,0 @@
-use mathlib.Core.Path.{refl}
-use Rattle.telegram.proofs.since.since_refused.Goals as goal
-
-pub returns : goal.returns
-returns c = rw c.no_head-head.ensures refl
