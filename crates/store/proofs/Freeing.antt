@@ -6,36 +6,26 @@ use mathlib.Core.Path.{◌≡◌, refl, sym, ap, ◌∙◌}
 use mathlib.Core.Bool.{cond}
 use mathlib.Core.Logic.{◌⊎◌, inl, inr, ⊎_elim}
 use mathlib.Core.List.{List, [], ◌∷◌}
-use lib.ListN.{length, get_or, set, replicate, length-take}
+use lib.ListN.{length, get_or, replicate, length-take, length-replicate, get_or-replicate}
 use lib.Seq.{ext_get_or, get_or-take}
 use lib.Dec.{ltb}
 use borrow.Author.Tests.{lt-ltb, le-ltb, eq-eqb, ne_eqb}
-use Rattle.lists.specs.Lists.{tab}
+use Rattle.lists.specs.Lists.{tab, over}
 use Rattle.lists.proofs.Cases.{split}
-use Rattle.lists.proofs.Laws.{length-tab, get_or-tab, tab-same}
-use Rattle.lists.proofs.Turns.{Making, make_none, make_more, make_skip, make_tab}
+use Rattle.lists.proofs.Laws.{length-tab, get_or-tab, is-tab, length_over, over-at}
 use Rattle.store.specs.Orders.{occ, no_slots, free_slots, meant, Good}
-
--- ---- the loop of `free_slots`
 
 abbrev pub free_at : ℕ → ℕ → ℕ
 free_at n k = cond (ltb k n) k 0
 
--- r has the first n slots in its first k places, and 0 in the others
-abbrev pub Freeing : ℕ → List ℕ → ℕ → Type 0
-Freeing n r k = Making 0 (free_at n) (tab 256 (λ j. 0)) r 256 k
-
-pub free_none : (n : ℕ) → Freeing n (replicate 256 0) 0
-free_none n = rw (tab-same {A = ℕ} 256 0) (make_none (omega (arith, length-tab {A = ℕ} 256 (λ j. 0))))
-
-pub free_more : (n k : ℕ) (r : List ℕ) → Freeing n r k → k < 256 → k < n → Freeing n (set r k k) (k + 1)
-free_more n k r M h g = let e : free_at n k ≡ k = rw (lt-ltb k n g) in rw e at (make_more M h)
-
-pub free_skip : (n k : ℕ) (r : List ℕ) → Freeing n r k → k < 256 → n ≤ k → Freeing n r (k + 1)
-free_skip n k r M h g = make_skip M h (rw (le-ltb k n g) (sym (get_or-tab 0 256 (λ j. 0) k h)))
-
-pub free_all : (n : ℕ) {k : ℕ} {r : List ℕ} → Freeing n r k → 256 ≤ k → r ≡ tab 256 (free_at n)
-free_all n M h = make_tab M h (length-tab {A = ℕ} 256 (λ j. 0))
+-- the places below n, of 256 zeros, made their own slots
+pub free_all : (n i : ℕ) (r z : List ℕ) → z ≡ replicate 256 0 → r ≡ over 0 i (λ k. k) z → i ≡ min n 256 → r ≡ tab 256 (free_at n)
+free_all n i r z s e m = is-tab 0 r 256 (free_at n) (ap length e ∙ (length_over 0 i (λ k. k) z ∙ long))
+    (λ k lt. rw (e, over-at 0 i (λ j. j) z k (omega (arith, long))) (⊎_elim (λ (a : k < n). rw (lt-ltb k n a, lt-ltb k i (omega arith)))
+    (λ a. rw (le-ltb k n a, le-ltb k i (omega arith)) (ap (λ (l : List ℕ). get_or l k 0) s ∙ get_or-replicate 256 k 0 0 lt)) (split k n)))
+  where
+    long : length z ≡ 256
+    long = ap length s ∙ length-replicate {A = ℕ} 256 0
 
 -- ---- an empty store is good
 

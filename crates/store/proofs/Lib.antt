@@ -1,3 +1,4 @@
+pub mod Made
 pub mod Runs
 pub mod Finding
 pub mod Moving

@@ -1,5 +1,5 @@
 -- An element put in or taken out: of a list, and of an array of slots in place. Assumes nothing.
-use Prim.Native.Nat.{ℕ, zero, suc, ◌+◌, ◌-◌, ◌<◌, ◌≤◌}
+use Prim.Native.Nat.{ℕ, zero, suc, ◌+◌, ◌-◌, ◌<◌, ◌≤◌, min}
 use native.Mathlib.Omega.{arith}
 use native.Mathlib.Nat.{le_of_suc-le-suc, not-suc-le-zero}
 use native.Mathlib.Numerals.{add-one}
@@ -8,14 +8,15 @@ use mathlib.Core.Bool.{cond, ◌&&◌, and-false}
 use mathlib.Core.Logic.{◌⊎◌, inl, inr, ⊎_elim}
 use mathlib.Core.List.{List, [], ◌∷◌, ◌++◌, map}
 use lib.ListN.{length, get_or, set, length-set, length-take}
-use lib.Seq.{ext_get_or, get_or-set_same, get_or-set_other, get_or-take}
+use lib.Seq.{ext_get_or, get_or-set_same, get_or-set_other, get_or-take, take-suc-set}
 use lib.Dec.{ltb, leb, eqb}
 use borrow.Author.Tests.{lt-ltb, le-ltb, le-leb, lt-leb, eq-eqb, ne_eqb}
+use Rattle.std.specs.List.{CopiedTo, SameBelow, SameFrom}
 use Rattle.lists.specs.Lists.{tab}
 use Rattle.lists.proofs.Cases.{split}
 use Rattle.lists.proofs.Laws.{length-tab, get_or-tab, is-tab}
 use Rattle.store.specs.declared.order.Slots.{Slots}
-use Rattle.store.specs.Orders.{ins_at, del_at, hit, occ, meant, moved_up, moved_down}
+use Rattle.store.specs.Orders.{ins_at, del_at, hit, occ, meant, moved_up, moved_down, pushed}
 
 -- ---- a list
 
@@ -114,6 +115,9 @@ occ-get_or n [] h = absurd (not-suc-le-zero h)
 occ-get_or zero (x ∷ xs) h = omega (arith, hit_self x)
 occ-get_or (suc n) (x ∷ xs) h = omega (arith, occ-get_or n xs (le_of_suc-le-suc h))
 
+pub length-meant : (s : Slots) → length s.at ≡ 256 → length (meant s) ≡ min s.count 256
+length-meant s e = rw (length-take, e)
+
 -- ---- an array of slots, one put in at a position
 
 module _ (s : Slots) (i x : ℕ) where
@@ -135,7 +139,8 @@ module _ (s : Slots) (i x : ℕ) where
   pub meant_up : length s.at ≡ 256 → i ≤ s.count → s.count < 256 → meant (moved_up s i x) ≡ ins_at i x (meant s)
   meant_up e h g =
       ext_get_or 0 (meant (moved_up s i x)) (ins_at i x (meant s)) (long ∙ (ap suc (sym m) ∙ sym (length_ins i x (meant s))))
-      (λ k lt. get_or-take (s.count + 1) (tab 256 up_at) k 0 (omega (arith, long)) ∙ (get_or-tab 0 256 up_at k (omega (arith, long)) ∙ place k (omega (arith, long)) (split k i) (split i k)))
+      (λ k lt. get_or-take (s.count + 1) (tab 256 up_at) k 0 (omega (arith, long))
+      ∙ (get_or-tab 0 256 up_at k (omega (arith, long)) ∙ place k (omega (arith, long)) (split k i) (split i k)))
     where
       m : length (meant s) ≡ s.count
       m = rw (length-take, e) (omega arith)
@@ -151,38 +156,19 @@ module _ (s : Slots) (i x : ℕ) where
           let q : suc k - 1 ≡ k = omega arith in
           up_next (suc k) a lt ∙ rw q (sym (ins_high i k x (meant s) (omega arith) (omega (arith, m)) ∙ get_or-take s.count s.at k 0 (omega arith)))
 
--- the loop that makes room: the elements from k on, up to n, stand one place higher
-pub record Raising (s r : List ℕ) (n k : ℕ) : Type 0 where
-  pub long : length r ≡ length s
-  pub within : k ≤ n
-  pub low : (j : ℕ) → j ≤ k → get_or r j 0 ≡ get_or s j 0
-  pub up : (j : ℕ) → k < j → j ≤ n → get_or r j 0 ≡ get_or s (j - 1) 0
-  pub high : (j : ℕ) → n < j → get_or r j 0 ≡ get_or s j 0
-
-pub raise_none : (s : List ℕ) (n : ℕ) → Raising s s n n
-raise_none s n = record { long = refl; within = omega arith; low = λ j h. refl; up = λ j a b. absurd (omega arith); high = λ j h. refl }
-
-pub raise_more : {s r : List ℕ} {n k : ℕ} → Raising s r n k → 0 < k → k < length s → Raising s (set r k (get_or r (k - 1) 0)) n (k - 1)
-raise_more {s} {r} {n} {k} R h g = record {
-  long = length-set r k (get_or r (k - 1) 0) ∙ R.long;
-  within = omega (arith, R.within);
-  low = λ j a. get_or-set_other r k j (get_or r (k - 1) 0) 0 (λ q. omega arith) ∙ R.low j (omega arith);
-  up = λ j a b. ⊎_elim (λ (c : k < j). get_or-set_other r k j (get_or r (k - 1) 0) 0 (λ q. omega arith) ∙ R.up j c b)
-      (λ c. let q : j ≡ k = omega arith in rw q (get_or-set_same r k (get_or r (k - 1) 0) 0 (omega (arith, R.long)) ∙ R.low (k - 1) (omega arith)))
-      (split k j);
-  high = λ j a. get_or-set_other r k j (get_or r (k - 1) 0) 0 (λ q. omega (arith, R.within)) ∙ R.high j a;
-}
-
-pub raise_all : (s : Slots) (r : List ℕ) (i x : ℕ) → Raising s.at r s.count i → length s.at ≡ 256 → s.count < 256 → set r i x ≡ (moved_up s i x).at
-raise_all s r i x R e g =
-    is-tab 0 (set r i x) 256 (up_at s i x) (length-set r i x ∙ (R.long ∙ e)) (λ k lt. place k (split k i) (split i k))
-  where
-    place : (k : ℕ) → (k < i) ⊎ (i ≤ k) → (i < k) ⊎ (k ≤ i) → get_or (set r i x) k 0 ≡ up_at s i x k
-    place k (inl a) _ = get_or-set_other r i k x 0 (λ q. omega arith) ∙ (R.low k (omega arith) ∙ sym (up_low s i x k a))
-    place k (inr b) (inr a) = let q : k ≡ i = omega arith in rw q (get_or-set_same r i x 0 (omega (arith, R.long, R.within)) ∙ sym (up_here s i x))
-    place k (inr b) (inl a) =
-        get_or-set_other r i k x 0 (λ q. omega arith)
-        ∙ ⊎_elim (λ c. R.high k c ∙ sym (up_high s i x k a c)) (λ c. R.up k a c ∙ sym (up_next s i x k a c)) (split s.count k)
+  -- those from the position on copied one place up, and the slot stored
+  pub raised : (r : List ℕ) → length s.at ≡ 256 → length r ≡ length s.at → i ≤ s.count → s.count < 256
+      → CopiedTo s.at r i (i + 1) (s.count - i) → SameBelow s.at r (i + 1) → SameFrom s.at r (i + 1 + (s.count - i)) → set r i x ≡ (moved_up s i x).at
+  raised r e l h g copied below from = is-tab 0 (set r i x) 256 up_at (length-set r i x ∙ (l ∙ e)) (λ k lt. place k (split k i) (split i k))
+    where
+      place : (k : ℕ) → (k < i) ⊎ (i ≤ k) → (i < k) ⊎ (k ≤ i) → get_or (set r i x) k 0 ≡ up_at k
+      place k (inl a) _ = get_or-set_other r i k x 0 (λ q. omega arith) ∙ (below k 0 (omega arith) ∙ sym (up_low k a))
+      place k (inr b) (inr a) = let q : k ≡ i = omega arith in rw q (get_or-set_same r i x 0 (omega arith) ∙ sym up_here)
+      place k (inr b) (inl a) =
+          get_or-set_other r i k x 0 (λ q. omega arith)
+          ∙ ⊎_elim (λ c. from k 0 (omega arith) ∙ sym (up_high k a c))
+          (λ c. copied k 0 (omega arith) (omega arith) ∙ (ap (λ (j : ℕ). get_or s.at j 0) (omega arith) ∙ sym (up_next k a c)))
+          (split s.count k)
 
 -- ---- an array of slots, the one at a position taken out
 
@@ -202,7 +188,8 @@ module _ (s : Slots) (i : ℕ) where
   pub meant_down : length s.at ≡ 256 → i < s.count → s.count ≤ 256 → meant (moved_down s i) ≡ del_at i (meant s)
   meant_down e h g =
       ext_get_or 0 (meant (moved_down s i)) (del_at i (meant s)) (long ∙ sym rest)
-      (λ k lt. get_or-take (s.count - 1) (tab 256 down_at) k 0 (omega (arith, long)) ∙ (get_or-tab 0 256 down_at k (omega (arith, long)) ∙ place k (omega (arith, long)) (split k i)))
+      (λ k lt. get_or-take (s.count - 1) (tab 256 down_at) k 0 (omega (arith, long))
+      ∙ (get_or-tab 0 256 down_at k (omega (arith, long)) ∙ place k (omega (arith, long)) (split k i)))
     where
       m : length (meant s) ≡ s.count
       m = rw (length-take, e) (omega arith)
@@ -217,34 +204,20 @@ module _ (s : Slots) (i : ℕ) where
       place k lt (inl a) = down_low k a ∙ sym (del_low i k (meant s) a ∙ get_or-take s.count s.at k 0 (omega arith))
       place k lt (inr a) = down_next k a lt ∙ rw add-one (sym (del_high i k (meant s) a ∙ get_or-take s.count s.at (suc k) 0 (omega arith)))
 
--- the loop that closes up: the elements from i on, up to k, come from one place higher
-pub record Lowering (s r : List ℕ) (i n k : ℕ) : Type 0 where
-  pub long : length r ≡ length s
-  pub above : i ≤ k
-  pub within : k ≤ n
-  pub low : (j : ℕ) → j < i → get_or r j 0 ≡ get_or s j 0
-  pub down : (j : ℕ) → i ≤ j → j < k → get_or r j 0 ≡ get_or s (j + 1) 0
-  pub high : (j : ℕ) → k ≤ j → get_or r j 0 ≡ get_or s j 0
+  -- those behind the position copied one place down
+  pub lowered : (r : List ℕ) → length s.at ≡ 256 → length r ≡ length s.at → i < s.count
+      → CopiedTo s.at r (i + 1) i (s.count - (i + 1)) → SameBelow s.at r i → SameFrom s.at r (i + (s.count - (i + 1))) → r ≡ (moved_down s i).at
+  lowered r e l h copied below from =
+      is-tab 0 r 256 down_at (l ∙ e) (λ j lt. ⊎_elim (λ a. below j 0 a ∙ sym (down_low j a)) (λ a. beyond j a (split (j + 1) s.count)) (split j i))
+    where
+      beyond : (j : ℕ) → i ≤ j → (j + 1 < s.count) ⊎ (s.count ≤ j + 1) → get_or r j 0 ≡ down_at j
+      beyond j a (inl b) = copied j 0 a (omega arith) ∙ (ap (λ (k : ℕ). get_or s.at k 0) (omega arith) ∙ sym (down_next j a b))
+      beyond j a (inr b) = from j 0 (omega arith) ∙ sym (down_high j b)
 
-pub lower_none : (s : List ℕ) (i n : ℕ) → i ≤ n → Lowering s s i n i
-lower_none s i n h = record { long = refl; above = omega arith; within = h; low = λ j a. refl; down = λ j a b. absurd (omega arith); high = λ j a. refl }
+-- ---- a slot put behind the others, and the last one taken out
 
-pub lower_more : {s r : List ℕ} {i n k : ℕ} → Lowering s r i n k → k < n → k < length s → Lowering s (set r k (get_or r (k + 1) 0)) i n (k + 1)
-lower_more {s} {r} {i} {n} {k} R h g = record {
-  long = length-set r k (get_or r (k + 1) 0) ∙ R.long;
-  above = omega (arith, R.above);
-  within = omega arith;
-  low = λ j a. get_or-set_other r k j (get_or r (k + 1) 0) 0 (λ q. omega (arith, R.above)) ∙ R.low j a;
-  down = λ j a b. ⊎_elim (λ (c : j < k). get_or-set_other r k j (get_or r (k + 1) 0) 0 (λ q. omega arith) ∙ R.down j a c)
-      (λ c. let q : j ≡ k = omega arith in rw q (get_or-set_same r k (get_or r (k + 1) 0) 0 (omega (arith, R.long)) ∙ R.high (k + 1) (omega arith)))
-      (split j k);
-  high = λ j a. get_or-set_other r k j (get_or r (k + 1) 0) 0 (λ q. omega arith) ∙ R.high j (omega arith);
-}
+pub meant_push : (s : Slots) (x : ℕ) → s.count < length s.at → meant (pushed s x) ≡ meant s ++ (x ∷ [])
+meant_push s x h = rw (add-one, take-suc-set s.at s.count x h)
 
-pub lower_all : (s : Slots) (r : List ℕ) (i k : ℕ) → Lowering s.at r i (s.count - 1) k → length s.at ≡ 256 → i < s.count → s.count - 1 ≤ k → r ≡ (moved_down s i).at
-lower_all s r i k R e h g =
-    is-tab 0 r 256 (down_at s i) (R.long ∙ e) (λ j lt. ⊎_elim (λ a. R.low j a ∙ sym (down_low s i j a)) (λ a. beyond j a (split (j + 1) s.count)) (split j i))
-  where
-    beyond : (j : ℕ) → i ≤ j → (j + 1 < s.count) ⊎ (s.count ≤ j + 1) → get_or r j 0 ≡ down_at s i j
-    beyond j a (inl b) = R.down j a (omega arith) ∙ sym (down_next s i j a b)
-    beyond j a (inr b) = R.high j (omega (arith, R.within)) ∙ sym (down_high s i j b)
+pub length_push : (s : Slots) (x : ℕ) → length (pushed s x).at ≡ length s.at
+length_push s x = length-set s.at s.count x

@@ -5,12 +5,14 @@ use native.Mathlib.Numerals.{add-one}
 use mathlib.Core.Path.{◌≡◌, refl, sym, ap, ◌∙◌}
 use mathlib.Core.Bool.{Bool, true, false, not, cond, true≢false}
 use mathlib.Core.List.{List, [], ◌∷◌, ◌++◌, map, append-nil, append_assoc}
-use lib.ListN.{length, get_or, set, take, length-set}
-use lib.Seq.{get_or-set_other, take-suc, take-suc-set}
+use lib.ListN.{length, get_or, take, length-take}
+use lib.Seq.{take-suc}
+use Rattle.std.proofs.lemmas.List.{take_all}
 use Rattle.store.specs.declared.order.Slots.{Slots}
+use Rattle.store.specs.declared.order.Store.{Store}
 use Rattle.store.specs.Words.{event_at}
-use Rattle.store.specs.Orders.{keep, above, occ, meant, Good, same_kept, Pruned}
-use Rattle.store.proofs.Moving.{occ-append}
+use Rattle.store.specs.Orders.{keep, above, occ, meant, pushed, Good, Pruned}
+use Rattle.store.proofs.Moving.{occ-append, meant_push, length_push}
 use Rattle.store.proofs.Putting.{good-moved}
 
 -- ---- keep
@@ -50,72 +52,81 @@ occ-keep v p (x ∷ l) = go (p x) (occ-keep v p l)
     go true e = omega (arith, e)
     go false e = omega (arith, e)
 
--- ---- the loop: of s the first i were tested, those that pass are the first `kept` of r, the others went behind the first m of f
+-- ---- the loop: of l the first i were tested, those that pass make the order, the others went behind the free slots f
 
-pub record Pruning (t : ℕ → Bool) (s r f g : List ℕ) (m kept ends i : ℕ) : Type 0 where
-  pub long : length r ≡ length s
-  pub long_free : length g ≡ length f
-  pub few : kept ≤ i
-  pub all : kept + ends ≡ i + m
-  pub keeps : take kept r ≡ keep t (take i s)
-  pub left : (j : ℕ) → i ≤ j → get_or r j 0 ≡ get_or s j 0
-  pub frees : take ends g ≡ take m f ++ keep (λ v. not (t v)) (take i s)
+pub record Pruning (t : ℕ → Bool) (l : List ℕ) (f s r : Slots) (i : ℕ) : Type 0 where
+  pub long : length s.at ≡ 256
+  pub long_free : length r.at ≡ 256
+  pub within : i ≤ length l
+  pub few : s.count ≤ i
+  pub all : s.count + r.count ≡ i + f.count
+  pub keeps : meant s ≡ keep t (take i l)
+  pub frees : meant r ≡ meant f ++ keep (λ v. not (t v)) (take i l)
 
-pub prune_none : (t : ℕ → Bool) (s f : List ℕ) (m : ℕ) → Pruning t s s f f m 0 m 0
+pub prune_none : (t : ℕ → Bool) (l a : List ℕ) (f : Slots) → length a ≡ 256 → length f.at ≡ 256 → Pruning t l f (record { at = a; count = 0 }) f 0
 unfolding keep
-prune_none t s f m = record {
-  long = refl;
-  long_free = refl;
+prune_none t l a f e g = record {
+  long = e;
+  long_free = g;
+  within = omega arith;
   few = omega arith;
   all = omega arith;
   keeps = refl;
-  left = λ j h. refl;
-  frees = sym (append-nil (take m f));
+  frees = sym (append-nil (meant f));
 }
 
-module _ {t : ℕ → Bool} {s r f g : List ℕ} {m kept ends i : ℕ} (P : Pruning t s r f g m kept ends i) (h : i < length s) where
+module _ {t : ℕ → Bool} {l : List ℕ} {f s r : Slots} {i : ℕ} (P : Pruning t l f s r i) (h : i < length l) where
   -- the tests of one more
-  next : (p : ℕ → Bool) (b : Bool) → p (get_or r i 0) ≡ b → keep p (take (i + 1) s) ≡ keep p (take i s) ++ cond b (get_or r i 0 ∷ []) []
-  next p b e = keep_next p s i 0 h ∙ rw (← P.left i (omega arith), e)
+  next : (p : ℕ → Bool) (b : Bool) → p (get_or l i 0) ≡ b → keep p (take (i + 1) l) ≡ keep p (take i l) ++ cond b (get_or l i 0 ∷ []) []
+  next p b e = keep_next p l i 0 h ∙ rw e refl
 
-  pub prune_keeps : t (get_or r i 0) ≡ true → Pruning t s (set r kept (get_or r i 0)) f g m (kept + 1) ends (i + 1)
-  prune_keeps e = record {
-    long = length-set r kept (get_or r i 0) ∙ P.long;
+  pub prune_keeps : s.count < 256 → t (get_or l i 0) ≡ true → Pruning t l f (pushed s (get_or l i 0)) r (i + 1)
+  prune_keeps g e = record {
+    long = length_push s (get_or l i 0) ∙ P.long;
     long_free = P.long_free;
+    within = omega arith;
     few = omega (arith, P.few);
     all = omega (arith, P.all);
-    keeps = rw (add-one kept, take-suc-set r kept (get_or r i 0) (omega (arith, P.few, P.long)), P.keeps) (sym (next t true e));
-    left = λ j l. get_or-set_other r kept j (get_or r i 0) 0 (λ q. omega (arith, P.few)) ∙ P.left j (omega arith);
-    frees = P.frees ∙ ap (λ (l : List ℕ). take m f ++ l) (sym (next (λ v. not (t v)) false (ap not e) ∙ append-nil (keep (λ v. not (t v)) (take i s))));
+    keeps = meant_push s (get_or l i 0) (omega (arith, P.long)) ∙ rw P.keeps (sym (next t true e));
+    frees = P.frees ∙ ap (λ (m : List ℕ). meant f ++ m) (sym (next (λ v. not (t v)) false (ap not e) ∙ append-nil (keep (λ v. not (t v)) (take i l))));
   }
 
-  pub prune_frees : ends < length f → t (get_or r i 0) ≡ false → Pruning t s r f (set g ends (get_or r i 0)) m kept (ends + 1) (i + 1)
-  prune_frees l e = record {
+  pub prune_frees : r.count < 256 → t (get_or l i 0) ≡ false → Pruning t l f s (pushed r (get_or l i 0)) (i + 1)
+  prune_frees g e = record {
     long = P.long;
-    long_free = length-set g ends (get_or r i 0) ∙ P.long_free;
+    long_free = length_push r (get_or l i 0) ∙ P.long_free;
+    within = omega arith;
     few = omega (arith, P.few);
     all = omega (arith, P.all);
-    keeps = P.keeps ∙ sym (next t false e ∙ append-nil (keep t (take i s)));
-    left = λ j a. P.left j (omega arith);
-    frees = rw (add-one ends, take-suc-set g ends (get_or r i 0) (omega (arith, P.long_free)), P.frees, next (λ v. not (t v)) true (ap not e))
-        (append_assoc (take m f) (keep (λ v. not (t v)) (take i s)) (get_or r i 0 ∷ []));
+    keeps = P.keeps ∙ sym (next t false e ∙ append-nil (keep t (take i l)));
+    frees = meant_push r (get_or l i 0) (omega (arith, P.long_free)) ∙ rw (P.frees, next (λ v. not (t v)) true (ap not e))
+        (append_assoc (meant f) (keep (λ v. not (t v)) (take i l)) (get_or l i 0 ∷ []));
   }
 
 -- ---- what `prune` ensures
 
-pub not_pruned : (p : List ℕ) (order free : Slots) (es : List ℕ) → ((c : ℕ) → Good c p order free → ⊥) → Pruned p order free es (same_kept order free)
-not_pruned p order free es h = record { list = λ c G. absurd (h c G); good = λ c G. G; kept = λ _. refl; answers = λ c G. absurd (h c G) }
+pub not_pruned : (p : List ℕ) (s : Store) (es : List ℕ) → ((c : ℕ) → Good c p s.order s.free → ⊥) → Pruned p s s es false
+not_pruned p s es h = record { list = λ c G. absurd (h c G); good = λ c G. G; kept = λ _. refl; answers = λ c G. absurd (h c G) }
 
-pub pruned : (p : List ℕ) (order free : Slots) (es r g : List ℕ) (kept ends : ℕ)
-    → Pruning (λ v. above es (event_at p v)) order.at r free.at g free.count kept ends order.count
-    → Pruned p order free es (record { done = true; order = record { at = r; count = kept }; free = record { at = g; count = ends } })
-pruned p order free es r g kept ends P = record {
-  list = λ c G. rw P.keeps (map-keep (event_at p) (above es) (meant order));
-  good = λ c G. good-moved G (record { at = r; count = kept }) (record { at = g; count = ends }) P.all
-      (λ v. rw (P.keeps, P.frees, occ-append v (meant free) (keep (λ v. not (t v)) (meant order))) (omega (arith, occ-keep v t (meant order))));
+pub pruned : (p : List ℕ) (s : Store) (es : List ℕ) (order free : Slots) {i : ℕ}
+    → Pruning (λ v. above es (event_at p v)) (meant s.order) s.free order free i → length (meant s.order) ≤ i → s.order.count ≤ length (meant s.order)
+    → Pruned p s (record { order = order; free = free }) es true
+pruned p s es order free {i} P h g = record {
+  list = λ c G. rw kept (map-keep (event_at p) (above es) (meant s.order));
+  good = λ c G. good-moved G order free (omega (arith, P.all, P.within, few))
+      (λ v. rw (kept, freed, occ-append v (meant s.free) (keep (λ v. not (t v)) (meant s.order))) (omega (arith, occ-keep v t (meant s.order))));
   kept = λ h. absurd (true≢false h);
   answers = λ c G. refl;
 }
   where
     t : ℕ → Bool
     t v = above es (event_at p v)
+
+    few : length (meant s.order) ≤ s.order.count
+    few = rw length-take (omega arith)
+
+    kept : meant order ≡ keep t (meant s.order)
+    kept = P.keeps ∙ ap (keep t) (take_all _ _ h)
+
+    freed : meant free ≡ meant s.free ++ keep (λ v. not (t v)) (meant s.order)
+    freed = P.frees ∙ ap (λ (l : List ℕ). meant s.free ++ keep (λ v. not (t v)) l) (take_all _ _ h)

@@ -8,21 +8,19 @@ use mathlib.Core.Logic.{⊎_elim}
 use mathlib.Core.List.{List, [], ◌∷◌, map}
 use lib.ListN.{length, get_or, set, take, length-map, length-take, length-set}
 use lib.Seq.{get_or-take, take-suc}
-use lib.Dec.{ltb, leb, eqb}
+use lib.Dec.{leb, eqb}
 use borrow.Author.Tests.{eq-eqb, lt-ltb, le-ltb, le-leb, lt-leb}
+use Rattle.std.specs.Prelude.{Result, Ok, Err}
+use Rattle.std.specs.declared.cmp.Ordering.{Ordering}
+use Rattle.std.specs.declared.cmp.Ordering.TheVariants.{Less, Equal, Greater}
 use Rattle.lists.proofs.Cases.{split}
 use Rattle.store.specs.declared.event.Event.{Event}
 use Rattle.store.specs.declared.order.Slots.{Slots}
-use Rattle.store.specs.declared.order.Cmp.{Cmp}
-use Rattle.store.specs.declared.order.Cmp.TheVariants.{Less, Same, More}
-use Rattle.store.specs.declared.order.Found.{Found}
-use Rattle.store.specs.declared.order.Found.TheVariants.{At, Gap}
+use Rattle.store.specs.declared.order.Store.{Store}
 use Rattle.store.specs.Words.{event_at, Saved}
-use Rattle.store.specs.Orders.{choose, cmp_of, find_from, insert_sorted, ins_at, del_at, hit, occ, meant, moved_up, moved_down, events, Good, same_kept, in_range, Put, Removed}
-use Rattle.store.proofs.Moving.{length_ins, del_out, map_ins, map_del, occ_ins, occ_del, occ-append, occ-get_or, hit_self, meant_up, meant_down}
-
-length-meant : (s : Slots) → length s.at ≡ 256 → length (meant s) ≡ min s.count 256
-length-meant s e = rw (length-take, e)
+use Rattle.store.specs.Orders.{choose, cmp_of, find_from, insert_sorted, ins_at, del_at, hit, occ, meant}
+use Rattle.store.specs.Orders.{moved_up, moved_down, events, but_last, pushed, Good, in_range, Put, Removed}
+use Rattle.store.proofs.Moving.{length_ins, del_out, map_ins, map_del, occ_ins, occ_del, occ-append, occ-get_or, hit_self, length-meant, meant_up, meant_down, meant_push}
 
 -- ---- a good store
 
@@ -48,30 +46,34 @@ module _ {c : ℕ} {p : List ℕ} {order free : Slots} (G : Good c p order free)
 
 -- ---- remove
 
-module _ (order free : Slots) (i : ℕ) where
-  pub not_removed : ((c : ℕ) (p : List ℕ) → Good c p order free → order.count ≤ i) → Removed order free i (same_kept order free)
+module _ (s : Store) (i : ℕ) where
+  pub not_removed : ((c : ℕ) (p : List ℕ) → Good c p s.order s.free → s.order.count ≤ i) → Removed s s i false
   not_removed h = record {
-    list = λ c p G. sym (del_out i (events p order) (rw (length-map, length-take) (omega (arith, h c p G))));
+    list = λ c p G. sym (del_out i (events p s.order) (rw (length-map, length-take) (omega (arith, h c p G))));
     good = λ c p G. G;
     kept = λ _. refl;
-    answers = λ c p G. sym (le-ltb i order.count (h c p G));
+    answers = λ c p G. sym (le-ltb i s.order.count (h c p G));
   }
 
-  pub removed : length order.at ≡ 256 → length free.at ≡ 256 → order.count ≤ 256 → i < order.count → free.count < 256
-      → Removed order free i (record { done = true; order = moved_down order i; free = moved_up free free.count (get_or order.at i 0) })
+  pub removed : length s.order.at ≡ 256 → length s.free.at ≡ 256 → s.order.count ≤ 256 → i < s.order.count → s.free.count < 256
+      → Removed s (record { order = moved_down s.order i; free = pushed s.free (get_or s.order.at i 0) }) i true
+  unfolding occ
   removed eo ef few h room = record {
-    list = λ c p G. rw (meant_down order i eo h few, map_del (event_at p) i (meant order));
-    good = λ c p G. good-moved G (moved_down order i) (moved_up free free.count s) (omega arith)
-        (λ v. rw (meant_down order i eo h few, meant_up free free.count s ef (omega arith) room, occ_ins v free.count s (meant free)) (omega (arith, took v)));
+    list = λ c p G. rw (meant_down s.order i eo h few, map_del (event_at p) i (meant s.order));
+    good = λ c p G. good-moved G (moved_down s.order i) (pushed s.free v) (omega arith)
+        (λ w. rw (meant_down s.order i eo h few, meant_push s.free v (omega arith), occ-append w (meant s.free) (v ∷ [])) (one w));
     kept = λ q. absurd (true≢false q);
-    answers = λ c p G. sym (lt-ltb i order.count h);
+    answers = λ c p G. sym (lt-ltb i s.order.count h);
   }
     where
-      s : ℕ
-      s = get_or order.at i 0
+      v : ℕ
+      v = get_or s.order.at i 0
 
-      took : (v : ℕ) → hit (eqb v s) + occ v (del_at i (meant order)) ≡ occ v (meant order)
-      took v = rw (← get_or-take order.count order.at i 0 h) (occ_del v i (meant order) (omega (arith, length-meant order eo)))
+      took : (w : ℕ) → hit (eqb w v) + occ w (del_at i (meant s.order)) ≡ occ w (meant s.order)
+      took w = rw (← get_or-take s.order.count s.order.at i 0 h) (occ_del w i (meant s.order) (omega (arith, length-meant s.order eo)))
+
+      one : (w : ℕ) → occ w (del_at i (meant s.order)) + (occ w (meant s.free) + occ w (v ∷ [])) ≡ occ w (meant s.order) + occ w (meant s.free)
+      one w = omega (arith, took w)
 
 -- ---- what `find` answers says where `insert_sorted` puts an event; positions count from j
 
@@ -87,17 +89,17 @@ record HitAt (e : Event) (xs ys : List Event) (j i : ℕ) : Type 0 where
   pub fit : k < length xs
   pub is : ys ≡ set xs k e
 
-abbrev Puts : Event → List Event → List Event → ℕ → Found → Type 0
-Puts e xs ys j (Gap i) = GapAt e xs ys j i
-Puts e xs ys j (At i) = HitAt e xs ys j i
+abbrev Puts : Event → List Event → List Event → ℕ → Result ℕ ℕ → Type 0
+Puts e xs ys j (Err i) = GapAt e xs ys j i
+Puts e xs ys j (Ok i) = HitAt e xs ys j i
 
-puts_cons : (r : Cmp) (e x : Event) (xs ys : List Event) (j : ℕ) (f : Found) → Puts e xs ys (j + 1) f
-    → Puts e (x ∷ xs) (choose r (x ∷ ys) (e ∷ xs) (e ∷ x ∷ xs)) j (choose r f (At j) (Gap j))
+puts_cons : (r : Ordering) (e x : Event) (xs ys : List Event) (j : ℕ) (f : Result ℕ ℕ) → Puts e xs ys (j + 1) f
+    → Puts e (x ∷ xs) (choose r (x ∷ ys) (e ∷ xs) (e ∷ x ∷ xs)) j (choose r f (Ok j) (Err j))
 unfolding ins_at
-puts_cons Less e x xs ys j (Gap i) h = record { k = suc h.k; at = omega (arith, h.at); fit = suc-le-suc h.fit; is = ap (λ (l : List Event). x ∷ l) h.is }
-puts_cons Less e x xs ys j (At i) h = record { k = suc h.k; at = omega (arith, h.at); fit = suc-le-suc h.fit; is = ap (λ (l : List Event). x ∷ l) h.is }
-puts_cons Same e x xs ys j f h = record { k = 0; at = omega arith; fit = omega arith; is = refl }
-puts_cons More e x xs ys j f h = record { k = 0; at = omega arith; fit = omega arith; is = refl }
+puts_cons Less e x xs ys j (Err i) h = record { k = suc h.k; at = omega (arith, h.at); fit = suc-le-suc h.fit; is = ap (λ (l : List Event). x ∷ l) h.is }
+puts_cons Less e x xs ys j (Ok i) h = record { k = suc h.k; at = omega (arith, h.at); fit = suc-le-suc h.fit; is = ap (λ (l : List Event). x ∷ l) h.is }
+puts_cons Equal e x xs ys j f h = record { k = 0; at = omega arith; fit = omega arith; is = refl }
+puts_cons Greater e x xs ys j f h = record { k = 0; at = omega arith; fit = omega arith; is = refl }
 
 puts : (e : Event) (xs : List Event) (j : ℕ) → Puts e xs (insert_sorted e xs) j (find_from e.origin.0 e.number j xs)
 unfolding insert_sorted find_from ins_at
@@ -130,9 +132,6 @@ module _ (f g : ℕ → Event) (s : ℕ) (same : (t : ℕ) → (t ≡ s → ⊥)
 
 -- ---- insert
 
-abbrev but_last : Slots → Slots
-but_last s = record { at = s.at; count = s.count - 1 }
-
 -- the last free slot, beside those before it
 last_free : (s : Slots) → length s.at ≡ 256 → 0 < s.count → s.count ≤ 256 → (v : ℕ) → occ v (meant s) ≡ occ v (meant (but_last s)) + hit (eqb v (get_or s.at (s.count - 1) 0))
 unfolding occ
@@ -142,15 +141,9 @@ last_free s e some few v =
     ∙ (ap (occ v) (take-suc s.at (s.count - 1) 0 (omega arith)) ∙ (occ-append v (meant (but_last s)) (get_or s.at (s.count - 1) 0 ∷ []) ∙ omega arith))
 
 -- nothing changes
-stays : (p : List ℕ) (order free : Slots) (e : Event) → ((c : ℕ) → Good c p order free → false ≡ (in_range e && leb (length (insert_sorted e (events p order))) c))
-    → Put p p order free e (same_kept order free)
-stays p order free e h = record { long = refl; answers = h; list = λ c G d. absurd (true≢false (sym d)); good = λ c G. G; kept = λ _. (refl, refl) }
-
-pub far_origin : (p : List ℕ) (order free : Slots) (e : Event) → 16 ≤ e.origin.0 → Put p p order free e (same_kept order free)
-far_origin p order free e h = stays p order free e (λ c G. rw (le-ltb e.origin.0 16 h) refl)
-
-pub too_long : (p : List ℕ) (order free : Slots) (e : Event) → 32 < e.len → Put p p order free e (same_kept order free)
-too_long p order free e h = stays p order free e (λ c G. rw (lt-leb e.len 32 h, and-false (ltb e.origin.0 16)) refl)
+stays : (p : List ℕ) (s : Store) (e : Event)
+    → ((c : ℕ) → Good c p s.order s.free → false ≡ (in_range e && leb (length (insert_sorted e (events p s.order))) c)) → Put p p s s e false
+stays p s e h = record { long = refl; answers = h; list = λ c G d. absurd (true≢false (sym d)); good = λ c G. G; kept = λ _. (refl, refl) }
 
 -- an event in range is put where no more than c are there with it
 fits_in : (e : Event) (n c : ℕ) → (e.origin.0 < 16) × (e.len ≤ 32) → n ≤ c → true ≡ (in_range e && leb n c)
@@ -158,73 +151,74 @@ fits_in e n c r h = rw (lt-ltb e.origin.0 16 r.0, le-leb e.len 32 r.1, le-leb n 
 
 -- what `find` answers, and what is known of it
 
-module _ (p : List ℕ) (order : Slots) (e : Event) (eo : length order.at ≡ 256) {found : Found} (f : found ≡ find_from e.origin.0 e.number 0 (events p order)) where
-  long : length (events p order) ≡ min order.count 256
-  long = length-map (meant order) (event_at p) ∙ length-meant order eo
+module _ (p : List ℕ) (s : Store) (e : Event) (eo : length s.order.at ≡ 256) {found : Result ℕ ℕ} (f : found ≡ find_from e.origin.0 e.number 0 (events p s.order)) where
+  long : length (events p s.order) ≡ min s.order.count 256
+  long = length-map (meant s.order) (event_at p) ∙ length-meant s.order eo
 
-  hit-at : {i : ℕ} → found ≡ At i → HitAt e (events p order) (insert_sorted e (events p order)) 0 i
-  hit-at t = rw (← f, t) at (puts e (events p order) 0)
+  hit-at : {i : ℕ} → found ≡ Ok i → HitAt e (events p s.order) (insert_sorted e (events p s.order)) 0 i
+  hit-at t = rw (← f, t) at (puts e (events p s.order) 0)
 
-  gap_at : {i : ℕ} → found ≡ Gap i → GapAt e (events p order) (insert_sorted e (events p order)) 0 i
-  gap_at t = rw (← f, t) at (puts e (events p order) 0)
+  gap_at : {i : ℕ} → found ≡ Err i → GapAt e (events p s.order) (insert_sorted e (events p s.order)) 0 i
+  gap_at t = rw (← f, t) at (puts e (events p s.order) 0)
 
-  pub hit-below : {i : ℕ} → found ≡ At i → (i < order.count) × (i < 256)
+  pub hit-below : {i : ℕ} → found ≡ Ok i → (i < s.order.count) × (i < 256)
   hit-below t = omega (arith, (hit-at t).at, (hit-at t).fit, long)
 
-  pub gap_within : {i : ℕ} → found ≡ Gap i → i ≤ order.count
+  pub gap_within : {i : ℕ} → found ≡ Err i → i ≤ s.order.count
   gap_within t = omega (arith, (gap_at t).at, (gap_at t).fit, long)
 
-  pub not_put : (free : Slots) {i : ℕ} → found ≡ Gap i → ((c : ℕ) → Good c p order free → order.count ≡ c) → Put p p order free e (same_kept order free)
-  not_put free t h = stays p order free e (λ c G.
-      rw (lt-leb (length (insert_sorted e (events p order))) c (rw (gap_at t).is (omega (arith, length_ins (gap_at t).k e (events p order), long, h c G, G.size)))) (sym (and-false (in_range e))))
+  pub not_put : {i : ℕ} → found ≡ Err i → ((c : ℕ) → Good c p s.order s.free → s.order.count ≡ c) → Put p p s s e false
+  not_put t h = stays p s e (λ c G.
+      rw (lt-leb (length (insert_sorted e (events p s.order))) c
+      (rw (gap_at t).is (omega (arith, length_ins (gap_at t).k e (events p s.order), long, h c G, G.size)))) (sym (and-false (in_range e))))
 
-  pub replaced : (free : Slots) (q : List ℕ) {i : ℕ} → (e.origin.0 < 16) × (e.len ≤ 32) → found ≡ At i → Saved p q (get_or order.at i 0) e
-      → Put p q order free e (record { done = true; order = order; free = free })
-  replaced free q {i} r t S = record {
+  pub replaced : (q : List ℕ) {i : ℕ} → (e.origin.0 < 16) × (e.len ≤ 32) → found ≡ Ok i → Saved p q (get_or s.order.at i 0) e
+      → Put p q s s e true
+  replaced q {i} r t S = record {
     long = S.long;
     answers = λ c G.
-        fits_in e (length (insert_sorted e (events p order))) c r
-        (rw ((hit-at t).is, length-set (events p order) (hit-at t).k e) (omega (arith, long, G.counts)));
+        fits_in e (length (insert_sorted e (events p s.order))) c r
+        (rw ((hit-at t).is, length-set (events p s.order) (hit-at t).k e) (omega (arith, long, G.counts)));
     list = λ c G _.
         let h = hit-at t in
         let w = hit-below t in
         let k : h.k ≡ i = omega (arith, h.at) in
-        let d : get_or (meant order) i 0 ≡ s = get_or-take order.count order.at i 0 w.0 in
-        let l : i < length (meant order) = omega (arith, length-meant order eo) in
-        let m : 1 ≤ occ s (meant order) = rw d at (occ-get_or i (meant order) l) in
-        let o = slot_once G s (omega arith) in
-        map_one (event_at p) (event_at q) s S.there (meant order) i l d (omega (arith, o.0)) ∙ rw (S.here o.1, ← k) (sym h.is);
+        let d : get_or (meant s.order) i 0 ≡ v = get_or-take s.order.count s.order.at i 0 w.0 in
+        let l : i < length (meant s.order) = omega (arith, length-meant s.order eo) in
+        let m : 1 ≤ occ v (meant s.order) = rw d at (occ-get_or i (meant s.order) l) in
+        let o = slot_once G v (omega arith) in
+        map_one (event_at p) (event_at q) v S.there (meant s.order) i l d (omega (arith, o.0)) ∙ rw (S.here o.1, ← k) (sym h.is);
     good = λ c G. good_words G q S.long;
     kept = λ h. absurd (true≢false h);
   }
     where
-      s : ℕ
-      s = get_or order.at i 0
+      v : ℕ
+      v = get_or s.order.at i 0
 
-  pub inserted : (free : Slots) (q : List ℕ) {i : ℕ} → (e.origin.0 < 16) × (e.len ≤ 32) → found ≡ Gap i → length free.at ≡ 256 → 0 < free.count → free.count ≤ 256 → order.count < 256
-      → Saved p q (get_or free.at (free.count - 1) 0) e
-      → Put p q order free e (record { done = true; order = moved_up order i (get_or free.at (free.count - 1) 0); free = but_last free })
-  inserted free q {i} r t ef some few room S = record {
+  pub inserted : (q : List ℕ) {i : ℕ} → (e.origin.0 < 16) × (e.len ≤ 32) → found ≡ Err i → length s.free.at ≡ 256 → 0 < s.free.count → s.free.count ≤ 256 → s.order.count < 256
+      → Saved p q (get_or s.free.at (s.free.count - 1) 0) e
+      → Put p q s (record { order = moved_up s.order i (get_or s.free.at (s.free.count - 1) 0); free = but_last s.free }) e true
+  inserted q {i} r t ef some few room S = record {
     long = S.long;
     answers = λ c G.
-        fits_in e (length (insert_sorted e (events p order))) c r
-        (rw (gap_at t).is (omega (arith, length_ins (gap_at t).k e (events p order), long, G.counts)));
+        fits_in e (length (insert_sorted e (events p s.order))) c r
+        (rw (gap_at t).is (omega (arith, length_ins (gap_at t).k e (events p s.order), long, G.counts)));
     list = λ c G _.
         let h = gap_at t in
         let k : h.k ≡ i = omega (arith, h.at) in
-        let o = slot_once G s (omega (arith, last_free free ef some few s, hit_self s)) in
+        let o = slot_once G v (omega (arith, last_free s.free ef some few v, hit_self v)) in
         rw (
-          meant_up order i s eo (gap_within t) room,
-          map_ins (event_at q) i s (meant order),
-          map_off (event_at p) (event_at q) s S.there (meant order) (omega (arith, o.0, last_free free ef some few s, hit_self s)),
+          meant_up s.order i v eo (gap_within t) room,
+          map_ins (event_at q) i v (meant s.order),
+          map_off (event_at p) (event_at q) v S.there (meant s.order) (omega (arith, o.0, last_free s.free ef some few v, hit_self v)),
           S.here o.1,
           ← k,
         )
         (sym h.is);
-    good = λ c G. good_words (good-moved G (moved_up order i s) (but_last free) (omega arith)
-        (λ v. rw (meant_up order i s eo (gap_within t) room, occ_ins v i s (meant order)) (omega (arith, last_free free ef some few v)))) q S.long;
+    good = λ c G. good_words (good-moved G (moved_up s.order i v) (but_last s.free) (omega arith)
+        (λ w. rw (meant_up s.order i v eo (gap_within t) room, occ_ins w i v (meant s.order)) (omega (arith, last_free s.free ef some few w)))) q S.long;
     kept = λ h. absurd (true≢false h);
   }
     where
-      s : ℕ
-      s = get_or free.at (free.count - 1) 0
+      v : ℕ
+      v = get_or s.free.at (s.free.count - 1) 0

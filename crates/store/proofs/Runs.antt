@@ -2,32 +2,15 @@
 use Prim.Native.Nat.{ℕ, zero, suc, ◌+◌, ◌*◌, ◌/◌, ◌%◌, ◌<◌, ◌≤◌}
 use native.Mathlib.Nat.{add-zero}
 use native.Mathlib.Omega.{arith}
-use mathlib.Core.Path.{◌≡◌, refl, sym, ap, ◌∙◌}
+use mathlib.Core.Path.{◌≡◌, sym, ap, ◌∙◌}
 use mathlib.Core.Logic.{◌⊎◌, inl, inr, ⊎_elim}
 use mathlib.Core.List.{List, [], ◌∷◌}
-use lib.ListN.{length, get_or, set, length-set}
-use lib.Seq.{get_or-set_same, get_or-set_other}
-use borrow.Author.Count.{below_none, below_more}
+use lib.ListN.{length, get_or}
 use Rattle.lists.specs.Lists.{tab}
 use Rattle.lists.proofs.Cases.{split}
 use Rattle.lists.proofs.Laws.{length-tab, get_or-tab, is-tab}
 use Rattle.store.specs.declared.event.Event.{Event}
 use Rattle.store.specs.Words.{byte_of, word_of, event_from, Ran, Saved}
-
--- ---- a run of words stored from place a on
-
-pub ran_none : (p : List ℕ) (a : ℕ) (f : ℕ → ℕ) → Ran p p a 0 f
-ran_none p a f = record { long = refl; here = λ h. below_none (λ k. get_or p (a + k) 0 ≡ f k); rest = λ j h. refl }
-
-pub ran_more : (p q : List ℕ) (a i : ℕ) (f : ℕ → ℕ) (v : ℕ) → Ran p q a i f → v ≡ f i → Ran p (set q (a + i) v) a (i + 1) f
-ran_more p q a i f v R e = record {
-  long = length-set q (a + i) v ∙ R.long;
-  here = λ h. below_more (λ k. get_or (set q (a + i) v) (a + k) 0 ≡ f k) i
-      (λ k lt. get_or-set_other q (a + i) (a + k) v 0 (λ q. omega arith) ∙ R.here (omega arith) k lt)
-      (get_or-set_same q (a + i) v 0 (omega arith) ∙ e);
-  rest = λ j. ⊎_elim (λ lt. get_or-set_other q (a + i) j v 0 (λ q. omega arith) ∙ R.rest j (inl lt))
-      (λ le. get_or-set_other q (a + i) j v 0 (λ q. omega arith) ∙ R.rest j (inr (omega arith)));
-}
 
 -- ---- an event in its words
 
@@ -36,14 +19,22 @@ event-from : (q : List ℕ) (a : ℕ) (e : Event) → get_or q a 0 ≡ e.origin.
     → length e.operation ≡ 32 → ((k : ℕ) → k < 32 → byte_of (get_or q (a + 19 + k / 4) 0) (k % 4) ≡ get_or e.operation k 0) → event_from q a ≡ e
 unfolding event_from
 event-from q a e o n l ve v pe p =
-    rw (o, n, l, ← is-tab 0 e.version.entries 16 (λ k. get_or q (a + 3 + k) 0) ve (λ k h. sym (v k h)), ← is-tab 0 e.operation 32 (λ k. byte_of (get_or q (a + 19 + k / 4) 0) (k % 4)) pe (λ k h. sym (p k h)))
+    rw (
+      o,
+      n,
+      l,
+      ← is-tab 0 e.version.entries 16 (λ k. get_or q (a + 3 + k) 0) ve (λ k h. sym (v k h)),
+      ← is-tab 0 e.operation 32 (λ k. byte_of (get_or q (a + 19 + k / 4) 0) (k % 4)) pe (λ k h. sym (p k h)),
+    )
 
 -- words that agree on the 27 of a slot hold one event there
 event-same : (p q : List ℕ) (a : ℕ) → ((j : ℕ) → a ≤ j → j < a + 27 → get_or q j 0 ≡ get_or p j 0) → event_from q a ≡ event_from p a
 unfolding event_from
 event-same p q a h = event-from q a (event_from p a) (h a (omega arith) (omega arith)) (h (a + 1) (omega arith) (omega arith)) (h (a + 2) (omega arith) (omega arith))
     (length-tab 16 (λ k. get_or p (a + 3 + k) 0)) (λ k lt. h (a + 3 + k) (omega arith) (omega arith) ∙ sym (get_or-tab 0 16 (λ k. get_or p (a + 3 + k) 0) k lt))
-    (length-tab 32 (λ k. byte_of (get_or p (a + 19 + k / 4) 0) (k % 4))) (λ k lt. ap (λ (w : ℕ). byte_of w (k % 4)) (h (a + 19 + k / 4) (omega arith) (omega arith)) ∙ sym (get_or-tab 0 32 (λ k. byte_of (get_or p (a + 19 + k / 4) 0) (k % 4)) k lt))
+    (length-tab 32 (λ k. byte_of (get_or p (a + 19 + k / 4) 0) (k % 4)))
+    (λ k lt. ap (λ (w : ℕ). byte_of w (k % 4)) (h (a + 19 + k / 4) (omega arith) (omega arith))
+    ∙ sym (get_or-tab 0 32 (λ k. byte_of (get_or p (a + 19 + k / 4) 0) (k % 4)) k lt))
 
 -- a byte of a word of four bytes
 byte_at : (b : List ℕ) (q r : ℕ) → r < 4 → ((i : ℕ) → get_or b i 0 < 256) → byte_of (word_of b q) r ≡ get_or b (4 * q + r) 0
@@ -71,7 +62,11 @@ saved p p₁ p₂ p₃ s e w ve oe ob we R₁ R₂ R₃ = record {
       (head (27 * s + 1) (omega arith) ∙ R₁.here (omega arith) 1 (omega arith))
       (head (27 * s + 2) (omega arith) ∙ R₁.here (omega arith) 2 (omega arith))
       ve (λ k h. R₃.rest (27 * s + 3 + k) (inl (omega arith)) ∙ R₂.here (omega (arith, R₁.long)) k (omega arith))
-      oe (λ k h. rw (R₃.here (omega (arith, wl, R₁.long, R₂.long)) (k / 4) (omega (arith, wl)), we, get_or-tab 0 8 (word_of e.operation) (k / 4) (omega arith)) (byte_of_word e.operation k ob));
+      oe (λ k h. rw (
+        R₃.here (omega (arith, wl, R₁.long, R₂.long)) (k / 4) (omega (arith, wl)),
+        we,
+        get_or-tab 0 8 (word_of e.operation) (k / 4) (omega arith),
+      ) (byte_of_word e.operation k ob));
   there = λ t ne. event-same p p₃ (27 * t) (λ j lo hi. beside j (⊎_elim (λ (lt : t < s). inl (omega arith)) (λ le. inr (omega arith)) (split t s)));
   rest = beside;
 }

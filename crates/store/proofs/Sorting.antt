@@ -8,12 +8,11 @@ use mathlib.Core.List.Memᴰ
 use mathlib.Core.List.{List, [], ◌∷◌}
 use lib.ListN.{length, get_or}
 use borrow.Author.Tests.{lt-ltb, le-ltb}
+use Rattle.std.specs.Prelude.{Result, Ok, Err}
+use Rattle.std.specs.declared.cmp.Ordering.{Ordering}
+use Rattle.std.specs.declared.cmp.Ordering.TheVariants.{Less, Equal, Greater}
 use Rattle.lists.proofs.Cases.{split}
 use Rattle.store.specs.declared.event.Event.{Event}
-use Rattle.store.specs.declared.order.Cmp.{Cmp}
-use Rattle.store.specs.declared.order.Cmp.TheVariants.{Less, Same, More}
-use Rattle.store.specs.declared.order.Found.{Found}
-use Rattle.store.specs.declared.order.Found.TheVariants.{At, Gap}
 use Rattle.store.specs.Orders.{choose, cmp_of, find_from, insert_sorted, del_at, keep, In, HasId, SameId, Before, Sorted}
 
 -- ---- ids
@@ -22,10 +21,10 @@ abbrev Below : ℕ → ℕ → ℕ → ℕ → Type 0
 Below a b o n = (a < o) ⊎ ((a ≡ o) × (b < n))
 
 -- what a comparison's answer says
-abbrev Standing : ℕ → ℕ → ℕ → ℕ → Cmp → Type 0
+abbrev Standing : ℕ → ℕ → ℕ → ℕ → Ordering → Type 0
 Standing a b o n Less = Below a b o n
-Standing a b o n Same = (a ≡ o) × (b ≡ n)
-Standing a b o n More = Below o n a b
+Standing a b o n Equal = (a ≡ o) × (b ≡ n)
+Standing a b o n Greater = Below o n a b
 
 standing : (a b o n : ℕ) → Standing a b o n (cmp_of a b o n)
 standing a b o n =
@@ -40,10 +39,10 @@ cmp_ind : {A : Type 0} (P : A → Type 0) (a b o n : ℕ) {x y z : A} → (Below
     → P (choose (cmp_of a b o n) x y z)
 cmp_ind P a b o n {x} {y} {z} f g h = go (cmp_of a b o n) (standing a b o n)
   where
-    go : (r : Cmp) → Standing a b o n r → P (choose r x y z)
+    go : (r : Ordering) → Standing a b o n r → P (choose r x y z)
     go Less s = f s
-    go Same s = g s
-    go More s = h s
+    go Equal s = g s
+    go Greater s = h s
 
 below_trans : (a b c d o n : ℕ) → Below a b c d → Below c d o n → Below a b o n
 below_trans a b c d o n (inl p) (inl q) = inl (omega arith)
@@ -183,9 +182,9 @@ record FoundAt (o n : ℕ) (l : List Event) (j i : ℕ) : Type 0 where
   pub fit : k < length l
   pub is : (d : Event) → HasId o n (get_or l k d)
 
-abbrev Answer : ℕ → ℕ → List Event → ℕ → Found → Type 0
-Answer o n l j (At i) = FoundAt o n l j i
-Answer o n l j (Gap i) = Sorted l → (y : Event) → In y l → ¬ HasId o n y
+abbrev Answer : ℕ → ℕ → List Event → ℕ → Result ℕ ℕ → Type 0
+Answer o n l j (Ok i) = FoundAt o n l j i
+Answer o n l j (Err i) = Sorted l → (y : Event) → In y l → ¬ HasId o n y
 
 answer : (o n : ℕ) (l : List Event) (j : ℕ) → Answer o n l j (find_from o n j l)
 unfolding find_from
@@ -194,20 +193,21 @@ answer o n (x ∷ l) j =
     cmp_ind (Answer o n (x ∷ l) j) x.origin.0 x.number o n
     (λ t. later t (find_from o n (j + 1) l) (answer o n l (j + 1)))
     (λ t. record { k = 0; at = omega arith; fit = suc-le-suc zero-le; is = λ d. t })
-    (λ t s y m h. below_other o n y.origin.0 y.number (⊎_elim (λ c. rw c t) (λ c. below_trans o n x.origin.0 x.number y.origin.0 y.number t (s.0 y c)) (Memᴰ.cases_cons m)) (sym h.0, sym h.1))
+    (λ t s y m h. below_other o n y.origin.0 y.number
+    (⊎_elim (λ c. rw c t) (λ c. below_trans o n x.origin.0 x.number y.origin.0 y.number t (s.0 y c)) (Memᴰ.cases_cons m)) (sym h.0, sym h.1))
   where
-    later : Below x.origin.0 x.number o n → (f : Found) → Answer o n l (j + 1) f → Answer o n (x ∷ l) j f
-    later t (At i) h = record { k = suc h.k; at = omega (arith, h.at); fit = suc-le-suc h.fit; is = h.is }
-    later t (Gap i) h =
+    later : Below x.origin.0 x.number o n → (f : Result ℕ ℕ) → Answer o n l (j + 1) f → Answer o n (x ∷ l) j f
+    later t (Ok i) h = record { k = suc h.k; at = omega (arith, h.at); fit = suc-le-suc h.fit; is = h.is }
+    later t (Err i) h =
         λ s y m g. ⊎_elim (λ c. below_other x.origin.0 x.number o n t (rw c at g)) (λ c. h s.1 y c g) (Memᴰ.cases_cons m)
 
 -- where the id stands
-pub find_at : (o n i : ℕ) (l : List Event) → find_from o n 0 l ≡ At i → (i < length l) × ((d : Event) → HasId o n (get_or l i d))
+pub find_at : (o n i : ℕ) (l : List Event) → find_from o n 0 l ≡ Ok i → (i < length l) × ((d : Event) → HasId o n (get_or l i d))
 find_at o n i l f =
     let h = rw f at (answer o n l 0) in
     let k : i ≡ h.k = omega (arith, h.at) in
     rw k (h.fit, h.is)
 
 -- no element has the id
-pub find_gap : (o n i : ℕ) (l : List Event) → Sorted l → find_from o n 0 l ≡ Gap i → (y : Event) → In y l → ¬ HasId o n y
+pub find_gap : (o n i : ℕ) (l : List Event) → Sorted l → find_from o n 0 l ≡ Err i → (y : Event) → In y l → ¬ HasId o n y
 find_gap o n i l s f = let h = rw f at (answer o n l 0) in h s

@@ -1,31 +1,29 @@
 -- A store's events: the slots in use by their events' ids, origin's place and then number, and the slots that are free. Assumes nothing.
-use Rattle.std.specs.Prelude.{ℕ, zero, suc, ◌+◌, ◌-◌, ◌*◌, ◌<◌, ◌≤◌, min, ◌≡◌, Bool, true, false, cond, ◌&&◌, ◌⊎◌, length, get_or, take, ltb, leb, eqb}
+use Rattle.std.specs.Prelude.{ℕ, zero, suc, ◌+◌, ◌-◌, ◌*◌, ◌<◌, ◌≤◌, min, ◌≡◌, Bool, true, false, cond, ◌&&◌, ◌⊎◌, Result, Ok, Err, length, get_or, set, take, ltb, leb, eqb}
+use Rattle.std.specs.declared.cmp.Ordering.{Ordering}
+use Rattle.std.specs.declared.cmp.Ordering.TheVariants.{Less, Equal, Greater}
 use mathlib.Core.List.{List, [], ◌∷◌, map, Memᴰ}
 use Rattle.lists.specs.Lists.{at, tab}
 use Rattle.store.specs.Words.{event_at}
 use Rattle.store.specs.declared.event.Event.{Event}
 use Rattle.store.specs.declared.order.Slots.{Slots}
-use Rattle.store.specs.declared.order.Kept.{Kept}
-use Rattle.store.specs.declared.order.Cmp.{Cmp}
-use Rattle.store.specs.declared.order.Cmp.TheVariants.{Less, Same, More}
-use Rattle.store.specs.declared.order.Found.{Found}
-use Rattle.store.specs.declared.order.Found.TheVariants.{At, Gap}
+use Rattle.store.specs.declared.order.Store.{Store}
 
 -- ---- sorted lists of events, each id once
 
-abbrev pub choose : {A : Type 0} → Cmp → A → A → A → A
+abbrev pub choose : {A : Type 0} → Ordering → A → A → A → A
 choose Less a b c = a
-choose Same a b c = b
-choose More a b c = c
+choose Equal a b c = b
+choose Greater a b c = c
 
 -- how the id (a, b) stands to (o, n): by place, then number
-abbrev pub cmp_of : ℕ → ℕ → ℕ → ℕ → Cmp
-cmp_of a b o n = cond (ltb a o) Less (cond (ltb o a) More (cond (ltb b n) Less (cond (ltb n b) More Same)))
+abbrev pub cmp_of : ℕ → ℕ → ℕ → ℕ → Ordering
+cmp_of a b o n = cond (ltb a o) Less (cond (ltb o a) Greater (cond (ltb b n) Less (cond (ltb n b) Greater Equal)))
 
--- where the id (o, n) stands in a sorted list, or is to stand; positions count from i
-unfoldable pub find_from : ℕ → ℕ → ℕ → List Event → Found
-find_from o n i [] = Gap i
-find_from o n i (x ∷ xs) = choose (cmp_of x.origin.0 x.number o n) (find_from o n (i + 1) xs) (At i) (Gap i)
+-- where the id (o, n) stands in a sorted list (`Ok`), or is to stand (`Err`); positions count from i
+unfoldable pub find_from : ℕ → ℕ → ℕ → List Event → Result ℕ ℕ
+find_from o n i [] = Err i
+find_from o n i (x ∷ xs) = choose (cmp_of x.origin.0 x.number o n) (find_from o n (i + 1) xs) (Ok i) (Err i)
 
 -- e put into a sorted list; one with the same id gives way
 unfoldable pub insert_sorted : Event → List Event → List Event
@@ -88,6 +86,17 @@ moved_down s i = record {
   count = s.count - 1;
 }
 
+-- a slot put behind the others, and the last one taken out
+abbrev pub pushed : Slots → ℕ → Slots
+pushed s x = record { at = set s.at s.count x; count = s.count + 1 }
+
+abbrev pub but_last : Slots → Slots
+but_last s = record { at = s.at; count = s.count - 1 }
+
+-- no slot in use, and the first n free
+abbrev pub new_store : ℕ → Store
+new_store n = record { order = no_slots; free = free_slots n }
+
 -- the events of an order
 abbrev pub events : List ℕ → Slots → List Event
 events p o = map (event_at p) (meant o)
@@ -109,27 +118,24 @@ pub record Good (c : ℕ) (p : List ℕ) (order free : Slots) : Type 0 where
   pub once : (v : ℕ) → v < c → occ v (meant order) + occ v (meant free) ≡ 1
   pub inside : (v : ℕ) → c ≤ v → occ v (meant order) + occ v (meant free) ≡ 0
 
-abbrev pub same_kept : Slots → Slots → Kept
-same_kept order free = record { done = false; order = order; free = free }
-
 -- an origin's place and a length in their range
 abbrev pub in_range : Event → Bool
 in_range e = ltb e.origin.0 16 && leb e.len 32
 
--- e is put into the store where it is in range and no more than c are there with it; where it isn't, nothing changed
-pub record Put (p q : List ℕ) (order free : Slots) (e : Event) (r : Kept) : Type 0 where
+-- e is put into the store s, which is t then, where it is in range and no more than c are there with it; where it isn't, nothing changed
+pub record Put (p q : List ℕ) (s t : Store) (e : Event) (done : Bool) : Type 0 where
   pub long : length q ≡ length p
-  pub answers : (c : ℕ) → Good c p order free → r.done ≡ (in_range e && leb (length (insert_sorted e (events p order))) c)
-  pub list : (c : ℕ) → Good c p order free → r.done ≡ true → events q r.order ≡ insert_sorted e (events p order)
-  pub good : (c : ℕ) → Good c p order free → Good c q r.order r.free
-  pub kept : r.done ≡ false → (q ≡ p) × (r ≡ same_kept order free)
+  pub answers : (c : ℕ) → Good c p s.order s.free → done ≡ (in_range e && leb (length (insert_sorted e (events p s.order))) c)
+  pub list : (c : ℕ) → Good c p s.order s.free → done ≡ true → events q t.order ≡ insert_sorted e (events p s.order)
+  pub good : (c : ℕ) → Good c p s.order s.free → Good c q t.order t.free
+  pub kept : done ≡ false → (q ≡ p) × (t ≡ s)
 
--- the event at a position is taken out, whatever the words, where there is one; where it isn't, nothing changed
-pub record Removed (order free : Slots) (i : ℕ) (r : Kept) : Type 0 where
-  pub answers : (c : ℕ) (p : List ℕ) → Good c p order free → r.done ≡ ltb i order.count
-  pub list : (c : ℕ) (p : List ℕ) → Good c p order free → events p r.order ≡ del_at i (events p order)
-  pub good : (c : ℕ) (p : List ℕ) → Good c p order free → Good c p r.order r.free
-  pub kept : r.done ≡ false → r ≡ same_kept order free
+-- the event at a position is taken out of s, whatever the words, where there is one; where it isn't, nothing changed
+pub record Removed (s t : Store) (i : ℕ) (done : Bool) : Type 0 where
+  pub answers : (c : ℕ) (p : List ℕ) → Good c p s.order s.free → done ≡ ltb i s.order.count
+  pub list : (c : ℕ) (p : List ℕ) → Good c p s.order s.free → events p t.order ≡ del_at i (events p s.order)
+  pub good : (c : ℕ) (p : List ℕ) → Good c p s.order s.free → Good c p t.order t.free
+  pub kept : done ≡ false → t ≡ s
 
 -- ---- pruning
 
@@ -142,9 +148,9 @@ keep p (x ∷ xs) = cond (p x) (x ∷ keep p xs) (keep p xs)
 abbrev pub above : List ℕ → Event → Bool
 above f e = ltb (at f e.origin.0) e.number
 
--- the events at or below the entries are taken out; where they aren't, nothing changed
-pub record Pruned (p : List ℕ) (order free : Slots) (f : List ℕ) (r : Kept) : Type 0 where
-  pub list : (c : ℕ) → Good c p order free → events p r.order ≡ keep (above f) (events p order)
-  pub good : (c : ℕ) → Good c p order free → Good c p r.order r.free
-  pub kept : r.done ≡ false → r ≡ same_kept order free
-  pub answers : (c : ℕ) → Good c p order free → r.done ≡ true
+-- the events at or below the entries are taken out of s; where they aren't, nothing changed
+pub record Pruned (p : List ℕ) (s t : Store) (f : List ℕ) (done : Bool) : Type 0 where
+  pub list : (c : ℕ) → Good c p s.order s.free → events p t.order ≡ keep (above f) (events p s.order)
+  pub good : (c : ℕ) → Good c p s.order s.free → Good c p t.order t.free
+  pub kept : done ≡ false → t ≡ s
+  pub answers : (c : ℕ) → Good c p s.order s.free → done ≡ true

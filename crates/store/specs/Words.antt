@@ -2,6 +2,7 @@
 -- operation's 32 bytes, four to a word, the low byte first. Assumes nothing.
 use Rattle.std.specs.Prelude.{ℕ, zero, suc, ◌+◌, ◌*◌, ◌/◌, ◌%◌, ◌<◌, ◌≤◌, ◌≡◌, ◌⊎◌, List, length, get_or}
 use Rattle.lists.specs.Lists.{tab}
+use Rattle.clock.specs.declared.id.EventId.{EventId}
 use Rattle.store.specs.declared.event.Event.{Event}
 
 -- byte j of the word w, 0 the lowest
@@ -27,6 +28,10 @@ event_from p a = record {
 
 abbrev pub event_at : List ℕ → ℕ → Event
 event_at p s = event_from p (27 * s)
+
+-- an event's id
+abbrev pub id_of : Event → EventId
+id_of e = record { idx = e.origin; seq = e.number }
 
 -- q is p but for the n words from a on, which are f 0, f 1, ..
 pub record Ran (p q : List ℕ) (a n : ℕ) (f : ℕ → ℕ) : Type 0 where

@@ -1,13 +1,15 @@
 // An event, and the 27 words of a slot that hold it.
-ghost use Rattle.std.specs.Prelude.{◌≡◌, ◌+◌, ◌*◌, ◌/◌, ◌%◌, ◌<◌, ◌≤◌, length, get_or, set};
+ghost use Rattle.std.specs.Prelude.{◌≡◌, ◌+◌, ◌/◌, ◌%◌, ◌<◌, ◌≤◌, length, get_or};
 ghost use Rattle.lists.specs.Lists.{tab};
-ghost use Rattle.store.specs.Words.{byte_of, word_of, event_at, Ran, Saved};
+ghost use Rattle.store.specs.Words.{byte_of, word_of, event_at, id_of, Ran, Saved};
 
-use clock::id::ReplicaIdx;
+use clock::id::{EventId, ReplicaIdx};
 use clock::version_vector::Row;
+use std::array;
 
 // One version entry per member, by our own places; the operation is the first `len` bytes, 0 behind them.
-#[derive(Clone, Copy)]
+// kept: a length beside an array: no heap, fixed memory, and plain types can be copied
+#[derive(Clone, Copy, Debug)]
 pub struct Event {
     pub origin: ReplicaIdx,
     pub number: u32,
@@ -20,103 +22,82 @@ pub struct Event {
 pub const OPERATION: usize = 32;
 
 // How many words a slot has.
+// kept: a slot is plain words and no type, since callers lend `&mut [u32]`, which may not change
 pub const SLOT: usize = 27;
+
+impl Event {
+    // The event's id: its origin's place and its number.
+    pub fn id(&self) -> EventId
+        ensures { result ≡ id_of self.now }
+    {
+        EventId {
+            idx: self.origin,
+            seq: self.number,
+        }
+    }
+}
 
 // A word, and 0 past the end.
 pub(crate) fn word(words: &[u32], i: usize) -> u32
     ensures { result ≡ get_or words.now i 0 }
 {
-    if i < words.len() { words[i] } else { 0 }
-}
-
-// Stores a word; past the end nothing.
-fn put(words: &mut [u32], i: usize, value: u32)
-    ensures { words.new ≡ set words.old i value }
-{
-    if i < words.len() {
-        words[i] = value;
-    }
-}
-
-fn wide(x: u32) -> usize
-    ensures { result ≡ x }
-{
-    x as usize
+    words.get(i).copied().unwrap_or(0)
 }
 
 // Byte j of a word, 0 the lowest.
-fn byte(w: u32, j: usize) -> u8
-    ensures { result ≡ byte_of w j }
+fn byte(word: u32, j: usize) -> u8
+    requires { j < 4 }
+    ensures { result ≡ byte_of word j }
 {
-    match j {
-        0 => (w % 256) as u8,
-        1 => (w / 256 % 256) as u8,
-        2 => (w / 65536 % 256) as u8,
-        _ => (w / 16777216 % 256) as u8,
-    }
+    word.to_le_bytes()[j]
 }
 
+// The version's entries, which begin at a word.
+// kept: that a place is below 65,536 is asked here and in the two functions like it, which are handed a slot's place; a type for it would be no plainer
 fn entries_at(words: &[u32], a: usize) -> [u32; 16]
     requires { a < 65536 }
     ensures { result ≡ tab 16 (λ k. get_or words.now (a + k) 0) }
 {
-    let mut out = [0u32; 16];
-    for k in 0..16 {
-        out[k] = word(words, a + k);
-    }
-    out
+    array::from_fn(|k| word(words, a + k))
 }
 
+// The operation's bytes, four to a word, which begin at a word.
 fn operation_at(words: &[u32], a: usize) -> [u8; 32]
     requires { a < 65536 }
     ensures { result ≡ tab 32 (λ k. byte_of (get_or words.now (a + k / 4) 0) (k % 4)) }
 {
-    let mut out = [0u8; 32];
-    for k in 0..32 {
-        out[k] = byte(word(words, a + k / 4), k % 4);
-    }
-    out
+    array::from_fn(|k| byte(word(words, a + k / 4), k % 4))
 }
 
 // The event that a slot holds.
 pub fn load(words: &[u32], slot: u8) -> Event
     ensures { result ≡ event_at words.now slot }
 {
-    let a = SLOT * (slot as usize);
-    let origin = ReplicaIdx(wide(word(words, a)));
-    let entries = entries_at(words, a + 3);
-    let operation = operation_at(words, a + 19);
-    let version = Row { entries };
+    let a = SLOT * slot as usize;
     Event {
-        origin,
+        origin: ReplicaIdx(word(words, a) as usize),
         number: word(words, a + 1),
-        version,
-        len: wide(word(words, a + 2)),
-        operation,
+        version: Row {
+            entries: entries_at(words, a + 3),
+        },
+        len: word(words, a + 2) as usize,
+        operation: operation_at(words, a + 19),
     }
 }
 
-// Four bytes as a word.
-fn joined(b0: u8, b1: u8, b2: u8, b3: u8) -> u32
-    ensures { result ≡ b0 + 256 * b1 + 65536 * b2 + 16777216 * b3 }
+// The words that hold an operation's bytes.
+fn words_of(operation: &[u8; 32]) -> [u32; 8]
+    ensures { result ≡ tab 8 (word_of operation.now) }
 {
-    (b0 as u32) + 256 * (b1 as u32) + 65536 * (b2 as u32) + 16777216 * (b3 as u32)
-}
-
-fn words_of(operation: [u8; 32]) -> [u32; 8]
-    ensures { result ≡ tab 8 (word_of operation) }
-{
-    let mut out = [0u32; 8];
-    for k in 0..8 {
+    array::from_fn(|k| {
         let i = 4 * k;
-        out[k] = joined(
+        u32::from_le_bytes([
             operation[i],
             operation[i + 1],
             operation[i + 2],
             operation[i + 3],
-        );
-    }
-    out
+        ])
+    })
 }
 
 // Stores words from a place on, as far as there is room.
@@ -124,26 +105,23 @@ fn put_run(words: &mut [u32], a: usize, src: &[u32])
     requires { (a < 65536) × (length src.now < 65536) }
     ensures { Ran words.old words.new a (length src.now) (λ k. get_or src.now k 0) }
 {
-    let mut k = 0;
-    while k < src.len() {
-        put(words, a + k, src[k]);
-        k += 1;
+    if a < words.len() {
+        let n = src.len().min(words.len() - a);
+        words[a..a + n].copy_from_slice(&src[..n]);
     }
 }
 
 // Puts an event into a slot.
-pub(crate) fn save(words: &mut [u32], slot: u8, e: Event)
-    requires { (e.origin.0 < 16) × (e.len ≤ 32) }
-    ensures { Saved words.old words.new slot e }
+pub(crate) fn save(words: &mut [u32], slot: u8, event: Event)
+    requires { (event.origin.0 < 16) × (event.len ≤ 32) }
+    ensures { Saved words.old words.new slot event }
 {
-    let a = SLOT * (slot as usize);
-    let origin = e.origin.0;
-    let head = [origin as u32, e.number, e.len as u32];
-    let version = e.version;
-    let entries = version.entries;
-    let operation = e.operation;
-    let held = words_of(operation);
-    put_run(words, a, &head);
-    put_run(words, a + 3, &entries);
-    put_run(words, a + 19, &held);
+    let a = SLOT * slot as usize;
+    put_run(
+        words,
+        a,
+        &[event.origin.0 as u32, event.number, event.len as u32],
+    );
+    put_run(words, a + 3, &event.version.entries);
+    put_run(words, a + 19, &words_of(&event.operation));
 }

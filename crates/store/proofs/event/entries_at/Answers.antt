@@ -1,13 +1,11 @@
-use Rattle.lists.proofs.Turns.{make_none, make_more, make_tab}
-use native.Mathlib.Omega.{arith}
+use Prim.Native.Nat.{◌+◌}
+use lib.ListN.{get_or}
+use mathlib.Core.Path.{◌≡◌}
 use borrow.Author.Rules.{rules}
+use Rattle.store.proofs.Made.{made}
 use Rattle.store.proofs.event.entries_at.Goals as goal
 
-pub loop-k-init : goal.loop-k-init
-loop-k-init c = make_none (omega arith)
-
-pub loop-k-preserved : goal.loop-k-preserved
-loop-k-preserved c = rw c.word.ensures (make_more c.loop-k.invariant (omega arith))
-
 pub returns : goal.returns
-returns c = make_tab c.loop-k.invariant c.loop-k-test.false (search rules)
+returns c =
+    let w = c.args.words.now in
+    made c.from_fn.ensures.items 0 (λ f. (f.0.now ≡ w) × (f.1.now ≡ c.args.a)) (λ k. get_or w (c.args.a + k) 0) (search rules) (λ p q k y a l t. search rules)

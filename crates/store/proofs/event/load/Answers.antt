@@ -3,4 +3,4 @@ use Rattle.store.proofs.event.load.Goals as goal
 
 pub returns : goal.returns
 unfolding event_from
-returns c = rw (c.wide-2.ensures, c.word-3.ensures, c.word-2.ensures, c.operation_at-operation.ensures, c.entries_at-entries.ensures, c.wide.ensures, c.word.ensures)
+returns c = rw (c.operation_at.ensures, c.word-3.ensures, c.entries_at.ensures, c.word-2.ensures, c.word.ensures)

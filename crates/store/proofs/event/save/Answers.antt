@@ -9,10 +9,10 @@ use borrow.Author.Rules.{rules}
 use Rattle.store.proofs.event.save.Goals as goal
 
 pub put_run-requires-2 : goal.put_run-requires-2
-put_run-requires-2 c = let n : length c.args.e.version.entries ≡ 16 = search rules in omega arith
+put_run-requires-2 c = let n : length c.args.event.version.entries ≡ 16 = search rules in omega arith
 
 pub returns : goal.returns
 returns c =
-    let e = c.args.e in
+    let e = c.args.event in
     let fit : (i : ℕ) → Fits w8 (get_or e.operation i 0) = search rules in
-    saved _ _ _ _ _ e _ (search rules) (search rules) (λ i. (fit i).fits) c.words_of-held.ensures c.put_run.ensures c.put_run-2.ensures c.put_run-3.ensures
+    saved _ _ _ _ _ e _ (search rules) (search rules) (λ i. (fit i).fits) c.words_of.ensures c.put_run.ensures c.put_run-2.ensures c.put_run-3.ensures
