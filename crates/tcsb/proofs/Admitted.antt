@@ -13,12 +13,13 @@ use Rattle.refusal.specs.declared.Refusal.{Refusal}
 use Rattle.refusal.specs.Refusal.{no}
 use Rattle.lists.specs.Lists.{at, tab, all}
 use Rattle.lists.proofs.Laws.{get_or-tab, all-at, all-each, and_both}
-use Rattle.telegram.specs.Reading.{whole, refused, same_bytes, fair_bytes, fair_at, fair}
+use Rattle.telegram.specs.Reading.{same_bytes, fair_bytes, fair_at, fair}
 use Rattle.telegram.proofs.Steps.{whole_same, then_is, if_whole}
 use Rattle.tcsb.specs.declared.internalizer.Translation.{Translation}
 use Rattle.tcsb.specs.Internalizer.{no_translation, place_of, translation_of, continues, our_place}
 use Rattle.tcsb.specs.Replica.{State, own, admitted}
 use Rattle.tcsb.specs.WellFormed.{GoodRow}
+use Rattle.std.specs.Prelude.{Ok, Err}
 
 -- ---- names
 
@@ -81,10 +82,10 @@ row_good names listed few f m = record {
     name p lt = rw (row_at names listed p few lt) (place_is names (get_or listed p []) (m p lt))
 
 -- what is translated is the list's row
-translation_is : (names listed : List (List ℕ)) (row : Translation) → translation_of names listed ≡ whole row → Members names listed × (row_for names listed ≡ row)
+translation_is : (names listed : List (List ℕ)) (row : Translation) → translation_of names listed ≡ Ok row → Members names listed × (row_for names listed ≡ row)
 unfolding translation_of
 translation_is names listed row e =
-    let i = if_whole (all (length listed) (λ p. ltb (place_of names (get_or listed p [])) (length names))) (whole (row_for names listed)) (no 7) e in (
+    let i = if_whole (all (length listed) (λ p. ltb (place_of names (get_or listed p [])) (length names))) (Ok (row_for names listed)) (no 7) e in (
       λ p lt.
           ltb-true (place_of names (get_or listed p [])) (length names)
           (all-at (length listed) p (λ p. ltb (place_of names (get_or listed p [])) (length names)) i.0 lt),
@@ -100,12 +101,12 @@ pub record AdmittedRow (n ours count sender : ℕ) (row : Translation) : Type 0 
   pub other : our_place row sender ≡ ours → ⊥
 
 -- what a test didn't refuse
-if_not : {A : Type 0} (t : Bool) (k : Refusal) {a b : A} → cond t (refused k) (whole a) ≡ whole b → (t ≡ false) × (a ≡ b)
+if_not : {A : Type 0} (t : Bool) (k : Refusal) {a b : A} → cond t (Err k) (Ok a) ≡ Ok b → (t ≡ false) × (a ≡ b)
 if_not true k e = absurd (let z : ◌≡◌ {A = ℕ} 0 1 = cc in omega arith)
 if_not false k e = (refl, whole_same e)
 
 pub admitted-is : (st : State) (listed : List (List ℕ)) (sender : ℕ) (row : Translation) → length listed ≤ 16 → fair listed ≡ true
-    → admitted st listed sender ≡ whole row → AdmittedRow (length st.names) (own st) (length listed) sender row
+    → admitted st listed sender ≡ Ok row → AdmittedRow (length st.names) (own st) (length listed) sender row
 unfolding admitted
 admitted-is st listed sender row few f e =
     then_is (translation_of st.names listed) _ e (λ r er e1.

@@ -8,32 +8,26 @@ use lib.ListN.{length, get_or, set}
 use lib.Dec.{leb}
 use borrow.Author.Tests.{lt-ltb, le-leb, leb-true}
 use Rattle.refusal.specs.declared.Refusal.{Refusal}
-use Rattle.refusal.specs.declared.Outcome.{Outcome}
-use Rattle.refusal.specs.declared.Outcome.TheVariants as outcome
-use Rattle.refusal.specs.Refusal.{no, unless}
-use Rattle.telegram.specs.Fields.{got, counted, many}
-use Rattle.telegram.specs.Reading.{Whole, whole, refused, body, head, batch, batch_form, batch_read, texts}
+use Rattle.refusal.specs.Refusal.{no, then}
+use Rattle.telegram.specs.Fields.{counted, many}
+use Rattle.telegram.specs.Reading.{body, head, batch, batch_form, texts}
 use Rattle.telegram.specs.Writing.{list_fits}
 use Rattle.telegram.specs.declared.body.Body.{Body}
 use Rattle.telegram.specs.declared.batch.Batch.{Batch}
-use Rattle.telegram.specs.declared.batch.BatchRead.{BatchRead}
 use Rattle.telegram.proofs.Filled.{count-texts}
-use Rattle.telegram.proofs.Steps.{got_carry, after_is, ended_is, fairly-is}
+use Rattle.telegram.proofs.Steps.{got_carry, after_is, whole_same, ended_is, fairly-is}
 use Rattle.telegram.proofs.Inside.{counted_range}
-use Rattle.telegram.proofs.Told.{batch_told}
 use Rattle.store.specs.declared.event.Event.{Event}
 use Rattle.store.specs.Orders.{events, in_range}
 use Rattle.tcsb.specs.declared.internalizer.Translation.{Translation}
-use Rattle.tcsb.specs.declared.internalizer.Translated.{Translated}
 use Rattle.tcsb.specs.declared.tcsb.Tcsb.{Tcsb}
 use Rattle.tcsb.specs.declared.batch.Tally.{Tally}
-use Rattle.tcsb.specs.declared.batch.BatchReceived.{BatchReceived}
-use Rattle.tcsb.specs.declared.batch.Surveyed.{Surveyed}
-use Rattle.tcsb.specs.Internalizer.{no_translation, translated, our_place, event_of}
+use Rattle.tcsb.specs.declared.batch.Survey.{Survey}
+use Rattle.tcsb.specs.Internalizer.{no_translation, our_place, event_of}
 use Rattle.tcsb.specs.Replica.{State, members, own, Call, done, not_done, answer_of, state_after, first, admitted_by, admitted, extended, taken_of, insert_all, recorded, tally_of, some_own, some_misnumbered, batch_of}
 use Rattle.tcsb.specs.Tcsb.{view, Stores, with_stores, with_known, Good, Does, DoesIf}
 use Rattle.tcsb.specs.Receive.{room_of}
-use Rattle.tcsb.specs.Survey.{not_counted, counted_told, Surveys, SurveysAll, RecordsAll, Admits}
+use Rattle.tcsb.specs.Survey.{Surveys, SurveysAll, RecordsAll, Admits}
 use Rattle.tcsb.proofs.Valid.{members_range}
 use Rattle.tcsb.proofs.Heard.{BodyHeard, bodies_heard, batch_heard}
 use Rattle.tcsb.proofs.Admitted.{AdmittedRow}
@@ -41,6 +35,8 @@ use Rattle.tcsb.proofs.Receiving.{changed, heard_row, batch-well}
 use Rattle.tcsb.proofs.Storing.{taken-fixed}
 use Rattle.tcsb.proofs.Calls.{refused_if, refused_call, does_part, not_both}
 use Rattle.tcsb.proofs.Counting.{events-length}
+use Rattle.std.specs.Prelude.{Result, Ok, Err}
+use Rattle.leb128.specs.Leb128.{got}
 
 -- ---- the bodies of a batch that was read
 
@@ -50,7 +46,7 @@ pub record Bodies (s : List ℕ) (b : Batch) : Type 0 where
   pub reads : many b.count (body b.head.names.count s) b.bodies ≡ got items end
   pub few : b.count ≤ 256
 
-pub batch-bodies : (s : List ℕ) (b : Batch) → batch s ≡ whole b → Bodies s b
+pub batch-bodies : (s : List ℕ) (b : Batch) → batch s ≡ Ok b → Bodies s b
 unfolding batch_form
 batch-bodies s b e =
     after_is (head 2 s) _ (ended_is s _ (fairly-is s (λ (t : Batch). t.head.names) (batch_form s) e).0) (λ h mid eh e1.
@@ -66,35 +62,34 @@ goes_on st row s b bs =
     (first (recorded st (map (event_of row s) bs)) (λ after.
     done (tally_of st (map (event_of row s) bs)) (extended after (our_place row b.head.sender.0) row))))
 
-pub batch-is : (st : State) (s : List ℕ) (b : Batch) (row : Translation) (bs : List Body) (end : ℕ) → batch s ≡ whole b
-    → many b.count (body b.head.names.count s) b.bodies ≡ got bs end → admitted st (texts s b.head.names) b.head.sender.0 ≡ whole row
+pub batch-is : (st : State) (s : List ℕ) (b : Batch) (row : Translation) (bs : List Body) (end : ℕ) → batch s ≡ Ok b
+    → many b.count (body b.head.names.count s) b.bodies ≡ got bs end → admitted st (texts s b.head.names) b.head.sender.0 ≡ Ok row
     → batch_of st s ≡ goes_on st row s b bs
 unfolding batch_of
 batch-is st s b row bs end e m a = rw (e, m, a) refl
 
-pub not-admitted : (st : State) (s : List ℕ) (b : Batch) (k : Refusal) → batch s ≡ whole b → admitted st (texts s b.head.names) b.head.sender.0 ≡ refused k
+pub not-admitted : (st : State) (s : List ℕ) (b : Batch) (k : Refusal) → batch s ≡ Ok b → admitted st (texts s b.head.names) b.head.sender.0 ≡ Err k
     → batch_of st s ≡ not_done k
 unfolding batch_of
 not-admitted st s b k e a = let m = batch-bodies s b e in rw (e, m.reads, a) refl
 
-pub not_read : (st : State) (s : List ℕ) (k : Refusal) → batch s ≡ refused k → batch_of st s ≡ not_done k
+pub not_read : (st : State) (s : List ℕ) (k : Refusal) → batch s ≡ Err k → batch_of st s ≡ not_done k
 unfolding batch_of
 not_read st s k e = rw e refl
 
 -- ---- what the first walk tells of it
 
-record Judged (list p q : List ℕ) (t : Tcsb) (s : List ℕ) (b : Batch) (row : Translation) (v : Surveyed) : Type 0 where
+record Judged (list p q : List ℕ) (t : Tcsb) (s : List ℕ) (b : Batch) (row : Translation) (v : Survey) : Type 0 where
   pub bodies : List Body
   pub end : ℕ
   pub reads : many b.count (body b.head.names.count s) b.bodies ≡ got bodies end
   pub names : b.head.names.count ≤ 16
   pub heard : AdmittedRow (members (view t list p q)) (own (view t list p q)) b.head.names.count b.head.sender.0 row
-  pub done : v.outcome ≡ outcome.Done
-  pub surveys : Surveys (view t list p q) row s bodies v.survey
+  pub surveys : Surveys (view t list p q) row s bodies v
   pub is : batch_of (view t list p q) s ≡ goes_on (view t list p q) row s b bodies
 
-module _ {list p q s : List ℕ} {t : Tcsb} {b : Batch} {row : Translation} {v : Surveyed} where
-  judged : SurveysAll p q t row s b.bodies b.head.names.count b.count v → Admits list p q t s b row → Good t list p q → Judged list p q t s b row v
+module _ {list p q s : List ℕ} {t : Tcsb} {b : Batch} {row : Translation} {v : Survey} where
+  judged : SurveysAll p q t row s b.bodies b.head.names.count b.count (Ok v) → Admits list p q t s b row → Good t list p q → Judged list p q t s b row v
   judged sv a g =
       let m = batch-bodies s b a.0 in
       let h = batch_heard s b a.0 in
@@ -106,81 +101,93 @@ module _ {list p q s : List ℕ} {t : Tcsb} {b : Batch} {row : Translation} {v :
         reads = m.reads;
         names = h.few;
         heard = r;
-        done = y.0;
-        surveys = y.1;
+        surveys = rw (whole_same y.1.0) y.1.1;
         is = batch-is (view t list p q) s b row m.items m.end a.0 m.reads a.1;
       }
 
-  -- the walk goes through
-  pub walk_refused : (k : Refusal) → SurveysAll p q t row s b.bodies b.head.names.count b.count v → v.outcome ≡ outcome.Refused k → DoesIf (Admits list p q t s b row) list p p q q t t (refused k) (λ st. batch_of st s)
-  walk_refused k sv e = refused_if {k = k} {want = λ st. batch_of st s} (λ a g. let J = judged sv a g in absurd (let z : ◌≡◌ {A = ℕ} 0 1 = (let y = J.done in cc) in omega arith))
-
-  pub own-refused : SurveysAll p q t row s b.bodies b.head.names.count b.count v → v.survey.own ≡ true → DoesIf (Admits list p q t s b row) list p p q q t t (refused (no 10)) (λ st. batch_of st s)
+  pub own-refused : SurveysAll p q t row s b.bodies b.head.names.count b.count (Ok v) → v.own ≡ true
+      → DoesIf (Admits list p q t s b row) list p p q q t t (Err (no 10)) (λ st. batch_of st s)
   own-refused sv e = refused_if {k = no 10} {want = λ st. batch_of st s} (λ a g. let J = judged sv a g in J.is ∙ rw (sym J.surveys.own ∙ e) refl)
 
-  pub number-refused : SurveysAll p q t row s b.bodies b.head.names.count b.count v → v.survey.own ≡ false → v.survey.misnumbered ≡ true
-      → DoesIf (Admits list p q t s b row) list p p q q t t (refused (no 11)) (λ st. batch_of st s)
+  pub number-refused : SurveysAll p q t row s b.bodies b.head.names.count b.count (Ok v) → v.own ≡ false → v.misnumbered ≡ true
+      → DoesIf (Admits list p q t s b row) list p p q q t t (Err (no 11)) (λ st. batch_of st s)
   number-refused sv o e =
       refused_if {k = no 11} {want = λ st. batch_of st s} (λ a g. let J = judged sv a g in J.is ∙ rw (sym J.surveys.own ∙ o, sym J.surveys.misnumbered ∙ e) refl)
+
+-- the walk goes through
+pub walk_refused : {list p q s : List ℕ} {t : Tcsb} {b : Batch} {row : Translation} (k : Refusal) → SurveysAll p q t row s b.bodies b.head.names.count b.count (Err k)
+    → DoesIf (Admits list p q t s b row) list p p q q t t (Err k) (λ st. batch_of st s)
+walk_refused {list} {p} {q} {s} {t} {b} {row} k sv =
+    refused_if {k = k} {want = λ st. batch_of st s}
+    (λ a g.
+    let m = batch-bodies s b a.0 in
+    let h = batch_heard s b a.0 in
+    let r = heard_row row g.well h a.1 in
+    let y = sv.all list m.items m.end r.good.few h.few g.well.inbox_sorted g.well.outbox_sorted m.reads in
+    absurd (not_both (sym y.1.0)))
 
 -- ---- room
 
 abbrev room_by : {A : Type 0} → Bool → Bool → A → A → A → A
 room_by x y a b c = cond x (cond y a b) c
 
-room_told_lem : (w : Whole State) (x y : Bool) → room_by x y w (refused (no 13)) (refused (no 12)) ≡ unless (room_by x y outcome.Done (outcome.Refused (no 13)) (outcome.Refused (no 12))) refused w
+room_told_lem : (w : Result State Refusal) (x y : Bool)
+    → room_by x y w (Err (no 13)) (Err (no 12)) ≡ then (room_by {A = Result (Unit {0}) Refusal} x y (Ok tt) (Err (no 13)) (Err (no 12))) (λ _. w)
 room_told_lem w true true = refl
 room_told_lem w true false = refl
 room_told_lem w false y = refl
 
-room-done : (m n : ℕ) → room_by (leb m 64) (leb n 256) outcome.Done (outcome.Refused (no 13)) (outcome.Refused (no 12)) ≡ outcome.Done → (m ≤ 64) × (n ≤ 256)
+room-done : (m n : ℕ) → room_by {A = Result (Unit {0}) Refusal} (leb m 64) (leb n 256) (Ok tt) (Err (no 13)) (Err (no 12)) ≡ Ok tt → (m ≤ 64) × (n ≤ 256)
 room-done m n = go (leb m 64) (leb n 256) refl refl
   where
-    go : (x y : Bool) → leb m 64 ≡ x → leb n 256 ≡ y → room_by x y outcome.Done (outcome.Refused (no 13)) (outcome.Refused (no 12)) ≡ outcome.Done → (m ≤ 64) × (n ≤ 256)
+    go : (x y : Bool) → leb m 64 ≡ x → leb n 256 ≡ y → room_by {A = Result (Unit {0}) Refusal} x y (Ok tt) (Err (no 13)) (Err (no 12)) ≡ Ok tt → (m ≤ 64) × (n ≤ 256)
     go true true e f h = (leb-true m 64 e, leb-true n 256 f)
-    go true false e f h = absurd (let z : ◌≡◌ {A = ℕ} 0 1 = cc in omega arith)
-    go false y e f h = absurd (let z : ◌≡◌ {A = ℕ} 0 1 = cc in omega arith)
+    go true false e f h = absurd (not_both (sym h))
+    go false y e f h = absurd (not_both (sym h))
 
 -- what is recorded, by the counts
 abbrev pub stored_in : State → List Event → State
 stored_in st es = changed st st.known (insert_all (taken_of st es) st.inbox) (insert_all (taken_of st es) st.outbox)
 
 recorded_by : (st : State) (es : List Event) (m n : ℕ) → m ≡ length (insert_all (taken_of st es) st.inbox) → n ≡ length (insert_all (taken_of st es) st.outbox)
-    → recorded st es ≡ unless (room_by (leb m 64) (leb n 256) outcome.Done (outcome.Refused (no 13)) (outcome.Refused (no 12))) refused (whole (stored_in st es))
+    → recorded st es ≡ then (room_by {A = Result (Unit {0}) Refusal} (leb m 64) (leb n 256) (Ok tt) (Err (no 13)) (Err (no 12))) (λ _. Ok (stored_in st es))
 unfolding recorded
-recorded_by st es m n em en = rw (em, en) (room_told_lem (whole (stored_in st es)) (leb (length (insert_all (taken_of st es) st.inbox)) 64) (leb (length (insert_all (taken_of st es) st.outbox)) 256))
+recorded_by st es m n em en =
+    rw (em, en)
+    (room_told_lem (Ok (stored_in st es)) (leb (length (insert_all (taken_of st es) st.inbox)) 64) (leb (length (insert_all (taken_of st es) st.outbox)) 256))
 
-module _ {list p q s : List ℕ} {t : Tcsb} {b : Batch} {row : Translation} {v : Surveyed} where
+module _ {list p q s : List ℕ} {t : Tcsb} {b : Batch} {row : Translation} {v : Survey} where
   -- the counts of the survey are those of the definition
   waiting-is : Good t list p q → (J : Judged list p q t s b row v)
-      → t.inbox.order.count + v.survey.waiting ≡ length (insert_all (taken_of (view t list p q) (map (event_of row s) J.bodies)) (events p t.inbox.order))
-  waiting-is g J = ap (λ (n : ℕ). n + v.survey.waiting) (sym (events-length p t.inbox.order t.inbox.free g.sound.stores.inbox)) ∙ J.surveys.waiting
+      → t.inbox.order.count + v.waiting ≡ length (insert_all (taken_of (view t list p q) (map (event_of row s) J.bodies)) (events p t.inbox.order))
+  waiting-is g J = ap (λ (n : ℕ). n + v.waiting) (sym (events-length p t.inbox.order t.inbox.free g.sound.stores.inbox)) ∙ J.surveys.waiting
 
   kept-is : Good t list p q → (J : Judged list p q t s b row v)
-      → t.outbox.order.count + v.survey.kept ≡ length (insert_all (taken_of (view t list p q) (map (event_of row s) J.bodies)) (events q t.outbox.order))
-  kept-is g J = ap (λ (n : ℕ). n + v.survey.kept) (sym (events-length q t.outbox.order t.outbox.free g.sound.stores.outbox)) ∙ J.surveys.kept
+      → t.outbox.order.count + v.kept ≡ length (insert_all (taken_of (view t list p q) (map (event_of row s) J.bodies)) (events q t.outbox.order))
+  kept-is g J = ap (λ (n : ℕ). n + v.kept) (sym (events-length q t.outbox.order t.outbox.free g.sound.stores.outbox)) ∙ J.surveys.kept
 
-  recorded-is : {o : Outcome} → Good t list p q → (J : Judged list p q t s b row v) → o ≡ room_of t.inbox.order.count v.survey.waiting t.outbox.order.count v.survey.kept
-      → recorded (view t list p q) (map (event_of row s) J.bodies) ≡ unless o refused (whole (stored_in (view t list p q) (map (event_of row s) J.bodies)))
+  recorded-is : {o : Result (Unit {0}) Refusal} → Good t list p q → (J : Judged list p q t s b row v) → o ≡ room_of t.inbox.order.count v.waiting t.outbox.order.count v.kept
+      → recorded (view t list p q) (map (event_of row s) J.bodies) ≡ then o (λ _. Ok (stored_in (view t list p q) (map (event_of row s) J.bodies)))
   recorded-is {o} g J e =
       rw e
-      (recorded_by (view t list p q) (map (event_of row s) J.bodies) (t.inbox.order.count + v.survey.waiting) (t.outbox.order.count + v.survey.kept) (waiting-is g J) (kept-is g J))
+      (recorded_by (view t list p q) (map (event_of row s) J.bodies) (t.inbox.order.count + v.waiting) (t.outbox.order.count + v.kept) (waiting-is g J) (kept-is g J))
 
-  pub room-refused : {o : Outcome} (k : Refusal) → SurveysAll p q t row s b.bodies b.head.names.count b.count v → v.survey.own ≡ false → v.survey.misnumbered ≡ false
-      → o ≡ room_of t.inbox.order.count v.survey.waiting t.outbox.order.count v.survey.kept → o ≡ outcome.Refused k
-      → DoesIf (Admits list p q t s b row) list p p q q t t (refused k) (λ st. batch_of st s)
+  pub room-refused : {o : Result (Unit {0}) Refusal} (k : Refusal) → SurveysAll p q t row s b.bodies b.head.names.count b.count (Ok v) → v.own ≡ false → v.misnumbered ≡ false
+      → o ≡ room_of t.inbox.order.count v.waiting t.outbox.order.count v.kept → o ≡ Err k
+      → DoesIf (Admits list p q t s b row) list p p q q t t (Err k) (λ st. batch_of st s)
   room-refused {o} k sv e1 e2 eo ek =
       refused_if {k = k} {want = λ st. batch_of st s}
       (λ a g.
       let J = judged sv a g in
-      let x : recorded (view t list p q) (map (event_of row s) J.bodies) ≡ refused k =
-      recorded-is g J eo ∙ ap (λ (o : Outcome). unless o refused (whole (stored_in (view t list p q) (map (event_of row s) J.bodies)))) ek in
+      let x : recorded (view t list p q) (map (event_of row s) J.bodies) ≡ Err k =
+      recorded-is g J eo ∙ ap (λ (o : Result (Unit {0}) Refusal). then o (λ _. Ok (stored_in (view t list p q) (map (event_of row s) J.bodies)))) ek in
       J.is ∙ rw (sym J.surveys.own ∙ e1, sym J.surveys.misnumbered ∙ e2, x) refl)
 
 -- ---- stored
 
 -- an event of a body that was read, of a list that is admitted, is in range
-event_in_range : {n ours count sender : ℕ} {row : Translation} (s : List ℕ) (b : Body) → n ≤ 16 → AdmittedRow n ours count sender row → BodyHeard count b → in_range (event_of row s b) ≡ true
+event_in_range : {n ours count sender : ℕ} {row : Translation} (s : List ℕ) (b : Body) → n ≤ 16 → AdmittedRow n ours count sender row → BodyHeard count b
+    → in_range (event_of row s b) ≡ true
 unfolding event_of
 event_in_range {n} {ours} {count} {sender} {row} s b few r h =
     rw (lt-ltb (our_place row b.place.0) 16 (omega (arith, r.good.members b.place.0 (omega (arith, r.counts, h.listed)))), le-leb b.operation.len 32 h.short) refl
@@ -208,24 +215,24 @@ view-after list p' q' t r i row h a b = λ j. record {
 }
 
 -- a batch that is taken
-record Ended (list p p' q q' : List ℕ) (t : Tcsb) (s : List ℕ) (b : Batch) (row : Translation) (v : Surveyed) (r : Tcsb) : Type 0 where
+record Ended (list p p' q q' : List ℕ) (t : Tcsb) (s : List ℕ) (b : Batch) (row : Translation) (v : Survey) (r : Tcsb) : Type 0 where
   pub es : List Event
   pub is : batch_of (view t list p q) s ≡ done (tally_of (view t list p q) es) (extended (stored_in (view t list p q) es) (our_place row b.head.sender.0) row)
-  pub tally : v.survey.tally ≡ tally_of (view t list p q) es
+  pub tally : v.tally ≡ tally_of (view t list p q) es
   pub inbox : events p' r.inbox.order ≡ insert_all (taken_of (view t list p q) es) (events p t.inbox.order)
   pub outbox : events q' r.outbox.order ≡ insert_all (taken_of (view t list p q) es) (events q t.outbox.order)
   pub stores : Stores r p' q'
 
-module _ {list p p' q q' s : List ℕ} {t r : Tcsb} {b : Batch} {row : Translation} {v : Surveyed} {o : Outcome} where
-  ended : SurveysAll p q t row s b.bodies b.head.names.count b.count v → v.survey.own ≡ false → v.survey.misnumbered ≡ false
-      → o ≡ room_of t.inbox.order.count v.survey.waiting t.outbox.order.count v.survey.kept → o ≡ outcome.Done
+module _ {list p p' q q' s : List ℕ} {t r : Tcsb} {b : Batch} {row : Translation} {v : Survey} {o : Result (Unit {0}) Refusal} where
+  ended : SurveysAll p q t row s b.bodies b.head.names.count b.count (Ok v) → v.own ≡ false → v.misnumbered ≡ false
+      → o ≡ room_of t.inbox.order.count v.waiting t.outbox.order.count v.kept → o ≡ Ok tt
       → RecordsAll p p' q q' t row s b.bodies b.head.names.count b.count r → Admits list p q t s b row → Good t list p q → Ended list p p' q q' t s b row v r
   ended sv e1 e2 eo ed ra a g =
       let J = judged sv a g in
       let st = view t list p q in
       let es = map (event_of row s) J.bodies in
-      let x : recorded st es ≡ whole (stored_in st es) = recorded-is g J eo ∙ ap (λ (o : Outcome). unless o refused (whole (stored_in st es))) ed in
-      let room = room-done (t.inbox.order.count + v.survey.waiting) (t.outbox.order.count + v.survey.kept) (sym eo ∙ ed) in
+      let x : recorded st es ≡ Ok (stored_in st es) = recorded-is g J eo ∙ ap (λ (o : Result (Unit {0}) Refusal). then o (λ _. Ok (stored_in st es))) ed in
+      let room = room-done (t.inbox.order.count + v.waiting) (t.outbox.order.count + v.kept) (sym eo ∙ ed) in
       let heard = bodies_heard b.head.names.count s b.count b.bodies J.bodies J.end J.reads in
       let R = ra.puts J.bodies J.end g.sound.stores J.heard.good.few J.names J.reads
       (λ y m. event_in_range s y (members_range g.well).1 J.heard (heard y m)) in
@@ -239,12 +246,12 @@ module _ {list p p' q q' s : List ℕ} {t r : Tcsb} {b : Batch} {row : Translati
         stores = R.stores;
       }
 
-  pub batch-taken : {t' : Tcsb} {place : ℕ} → SurveysAll p q t row s b.bodies b.head.names.count b.count v → v.survey.own ≡ false → v.survey.misnumbered ≡ false
-      → o ≡ room_of t.inbox.order.count v.survey.waiting t.outbox.order.count v.survey.kept → o ≡ outcome.Done
+  pub batch-taken : {t' : Tcsb} {place : ℕ} → SurveysAll p q t row s b.bodies b.head.names.count b.count (Ok v) → v.own ≡ false → v.misnumbered ≡ false
+      → o ≡ room_of t.inbox.order.count v.waiting t.outbox.order.count v.kept → o ≡ Ok tt
       → RecordsAll p p' q q' t row s b.bodies b.head.names.count b.count r → place ≡ our_place row b.head.sender.0 → t' ≡ with_known r place row
-      → DoesIf (Admits list p q t s b row) list p p' q q' t t' (whole v.survey.tally) (λ st. batch_of st s)
+      → DoesIf (Admits list p q t s b row) list p p' q q' t t' (Ok v.tally) (λ st. batch_of st s)
   batch-taken {t'} {place} sv e1 e2 eo ed ra ep et = record {
-    answers = λ a g. let E = ended sv e1 e2 eo ed ra a g in ap whole E.tally ∙ sym (ap answer_of E.is);
+    answers = λ a g. let E = ended sv e1 e2 eo ed ra a g in ap Ok E.tally ∙ sym (ap answer_of E.is);
     leaves = λ a g.
         let E = ended sv e1 e2 eo ed ra a g in
         ap (λ (x : Tcsb). view x list p' q') (et ∙ ap (λ (i : ℕ). with_known r i row) ep)
@@ -258,71 +265,38 @@ module _ {list p p' q q' s : List ℕ} {t r : Tcsb} {b : Batch} {row : Translati
     kept = λ k e. absurd (not_both e);
   }
 
--- ---- answers as structs
-
-pub counted-refused : {fact : Type 0} {list p q : List ℕ} {t : Tcsb} {k : Refusal} {want : State → Call Tally} (r : BatchReceived) → r ≡ not_counted t k → DoesIf fact list p p q q t t (refused k) want
-    → DoesIf fact list p p q q t r.tcsb (counted_told r.counted) want
-counted-refused r e d = rw e d
-
-pub counted-not : {words : Bool} {list p q : List ℕ} {t : Tcsb} {k : Refusal} {want : State → Call Tally} (r : BatchReceived) → r ≡ not_counted t k → Does list p p q q words t t (refused k) want
-    → Does list p p q q words t r.tcsb (counted_told r.counted) want
-counted-not r e d = rw e d
-
 -- ---- reading and admitting
 
-read_told : {r : BatchRead} (s : List ℕ) → r ≡ batch_read (batch s) → batch_told r ≡ batch s
-read_told {r} s e = ap batch_told e ∙ back (batch s)
-  where
-    back : (g : Whole Batch) → batch_told (batch_read g) ≡ g
-    back (whole a) = refl
-    back (refused k) = refl
-
-pub batch_read_lem : {r : BatchRead} (s : List ℕ) → r ≡ batch_read (batch s) → r.outcome ≡ outcome.Done → batch s ≡ whole r.batch
-batch_read_lem {r} s e o = sym (read_told s e) ∙ ap (λ (k : Outcome). unless k refused (whole r.batch)) o
-
-batch_unread : {r : BatchRead} {k : Refusal} (s : List ℕ) → r ≡ batch_read (batch s) → r.outcome ≡ outcome.Refused k → batch s ≡ refused k
-batch_unread {r} s e o = sym (read_told s e) ∙ ap (λ (k : Outcome). unless k refused (whole r.batch)) o
-
-abbrev row_told : Translated → Whole Translation
-row_told a = unless a.outcome refused (whole a.row)
-
-row_told_lem : (g : Whole Translation) → row_told (translated g) ≡ g
-row_told_lem (whole row) = refl
-row_told_lem (refused k) = refl
-
 -- what the code asks of a list
-abbrev pub Answered : List ℕ → Tcsb → List ℕ → Batch → Translated → Type 0
+abbrev pub Answered : List ℕ → Tcsb → List ℕ → Batch → Result Translation Refusal → Type 0
 Answered list t s b a =
     t.names.count ≤ 16 → b.head.names.count ≤ 16 → ((i : ℕ) → (get_or t.known i no_translation).count ≤ 16)
-    → a ≡ translated (admitted_by (texts list t.names) t.known t.matrix.origin.0 (texts s b.head.names) b.head.sender.0)
+    → a ≡ admitted_by (texts list t.names) t.known t.matrix.origin.0 (texts s b.head.names) b.head.sender.0
 
-admitted_told : (list p q s : List ℕ) (t : Tcsb) (b : Batch) (a : Translated) → batch s ≡ whole b → Answered list t s b a → Good t list p q
-    → row_told a ≡ admitted (view t list p q) (texts s b.head.names) b.head.sender.0
+admitted_told : (list p q s : List ℕ) (t : Tcsb) (b : Batch) (a : Result Translation Refusal) → batch s ≡ Ok b → Answered list t s b a → Good t list p q
+    → admitted (view t list p q) (texts s b.head.names) b.head.sender.0 ≡ a
 unfolding admitted
 admitted_told list p q s t b a e h g =
     let n = count-texts list t.names in
-    ap row_told (h (omega (arith, n, g.well.listed, (members_range g.well).1)) (batch_heard s b e).few (λ i. (g.well.known i).few))
-    ∙ row_told_lem (admitted_by (texts list t.names) t.known t.matrix.origin.0 (texts s b.head.names) b.head.sender.0)
+    sym (h (omega (arith, n, g.well.listed, (members_range g.well).1)) (batch_heard s b e).few (λ i. (g.well.known i).few))
 
 -- ---- the call
 
-pub batch-few : {r : BatchRead} (s : List ℕ) → r ≡ batch_read (batch s) → r.outcome ≡ outcome.Done → r.batch.count ≤ 256
-batch-few {r} s e o = (batch-bodies s r.batch (batch_read_lem s e o)).few
+pub batch-few : {r : Result Batch Refusal} {b : Batch} (s : List ℕ) → r ≡ batch s → r ≡ Ok b → b.count ≤ 256
+batch-few {r} {b} s e o = (batch-bodies s b (sym e ∙ o)).few
 
-module _ (s : List ℕ) {list p q : List ℕ} {t : Tcsb} {words : Bool} {r : BatchRead} where
-  pub call_unread : (k : Refusal) → words ≡ true → r ≡ batch_read (batch s) → r.outcome ≡ outcome.Refused k → Does list p p q q words t t (refused k) (λ st. batch_of st s)
-  call_unread k w e o = refused_call {k = k} {want = λ st. batch_of st s} w (λ g. not_read (view t list p q) s k (batch_unread s e o))
+module _ (s : List ℕ) {list p q : List ℕ} {t : Tcsb} {words : Bool} {r : Result Batch Refusal} where
+  pub call_unread : (k : Refusal) → words ≡ true → r ≡ batch s → r ≡ Err k → Does list p p q q words t t (Err k) (λ st. batch_of st s)
+  call_unread k w e o = refused_call {k = k} {want = λ st. batch_of st s} w (λ g. not_read (view t list p q) s k (sym e ∙ o))
 
-  pub call_unadmitted : {a : Translated} (k : Refusal) → words ≡ true → r ≡ batch_read (batch s) → r.outcome ≡ outcome.Done → Answered list t s r.batch a → a.outcome ≡ outcome.Refused k
-      → Does list p p q q words t t (refused k) (λ st. batch_of st s)
-  call_unadmitted {a} k w e o h x =
+  pub call_unadmitted : {b : Batch} {a : Result Translation Refusal} (k : Refusal) → words ≡ true → r ≡ batch s → r ≡ Ok b → Answered list t s b a → a ≡ Err k
+      → Does list p p q q words t t (Err k) (λ st. batch_of st s)
+  call_unadmitted {b} {a} k w e o h x =
       refused_call {k = k} {want = λ st. batch_of st s} w
-      (λ g. not-admitted (view t list p q) s r.batch k (batch_read_lem s e o)
-      (sym (admitted_told list p q s t r.batch a (batch_read_lem s e o) h g) ∙ ap (λ (o : Outcome). unless o refused (whole a.row)) x))
+      (λ g. not-admitted (view t list p q) s b k (sym e ∙ o) (admitted_told list p q s t b a (sym e ∙ o) h g ∙ x))
 
-  pub call_admitted : {p' q' : List ℕ} {t' : Tcsb} {answer : Whole Tally} {a : Translated} → words ≡ true → r ≡ batch_read (batch s) → r.outcome ≡ outcome.Done → Answered list t s r.batch a
-      → a.outcome ≡ outcome.Done → DoesIf (Admits list p q t s r.batch a.row) list p p' q q' t t' answer (λ st. batch_of st s) → Does list p p' q q' words t t' answer (λ st. batch_of st s)
-  call_admitted {a = a} w e o h x d =
-      does_part (λ st. batch_of st s) w
-      (λ g. (batch_read_lem s e o, sym (admitted_told list p q s t r.batch a (batch_read_lem s e o) h g) ∙ ap (λ (o : Outcome). unless o refused (whole a.row)) x))
-      (λ st. batch-well st s) d
+  pub call_admitted : {p' q' : List ℕ} {t' : Tcsb} {answer : Result Tally Refusal} {b : Batch} {a : Result Translation Refusal} {row : Translation} → words ≡ true → r ≡ batch s
+      → r ≡ Ok b → Answered list t s b a → a ≡ Ok row → DoesIf (Admits list p q t s b row) list p p' q q' t t' answer (λ st. batch_of st s)
+      → Does list p p' q q' words t t' answer (λ st. batch_of st s)
+  call_admitted {b = b} {a = a} w e o h x d =
+      does_part (λ st. batch_of st s) w (λ g. (sym e ∙ o, admitted_told list p q s t b a (sym e ∙ o) h g ∙ x)) (λ st. batch-well st s) d

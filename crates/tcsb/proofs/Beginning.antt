@@ -1,19 +1,23 @@
 -- Founding a replica: what is judged of the names that are lent is what its definition asks, and the replica that is made is good. Assumes nothing.
 use mathlib.Core.Path.{◌≡◌, refl, sym, ap, ◌∙◌}
-use mathlib.Core.Bool.{Bool, true, false, cond, not, ◌&&◌}
+use mathlib.Core.Bool.{Bool, true, false, cond, ◌&&◌, ◌||◌}
 use mathlib.Core.List.{List, []}
 use Prim.Native.Nat.{ℕ, ◌+◌, ◌≤◌, ◌<◌}
 use native.Mathlib.Omega.{arith}
 use lib.ListN.{length, get_or}
 use lib.Dec.{leb, ltb}
-use borrow.Author.Tests.{lt-ltb, le-ltb, le-leb, leb-true}
+use borrow.Author.Tests.{lt-ltb, le-ltb, le-leb, leb-true, leb-false, eq-eqb}
 use Rattle.refusal.specs.declared.Refusal.{Refusal}
-use Rattle.refusal.specs.declared.Outcome.{Outcome}
-use Rattle.refusal.specs.declared.Outcome.TheVariants as outcome
 use Rattle.refusal.specs.Refusal.{no}
 use Rattle.lists.specs.Lists.{all}
-use Rattle.lists.proofs.Laws.{all-at, all-each, and_both, answered_no, answered_yes}
-use Rattle.telegram.specs.Reading.{whole, refused, nowhere, texts, fair}
+use Rattle.lists.proofs.Laws.{all-at, all-each, and_both}
+use Rattle.clock.specs.declared.causal_frontier.CausalFrontier.{CausalFrontier}
+use Rattle.clock.specs.declared.matrix_clock.MatrixClock.{MatrixClock}
+use Rattle.clock.specs.Entries.{zero_entries}
+use Rattle.clock.specs.Version.{fits_of}
+use Rattle.clock.specs.Matrix.{zero_matrix, new_matrix}
+use Rattle.clock.specs.Frontier.{new_frontier}
+use Rattle.telegram.specs.Reading.{nowhere, texts, fair}
 use Rattle.telegram.specs.Writing.{list_fits, list_judged}
 use Rattle.telegram.specs.declared.list.Names.{Names}
 use Rattle.telegram.proofs.Filled.{count-texts}
@@ -21,12 +25,12 @@ use Rattle.telegram.proofs.Steps.{whole_same}
 use Rattle.telegram.proofs.Parts.{list_fits_lem, fits_list, texts-at, length-text, length_name}
 use Rattle.store.proofs.Freeing.{empty_good}
 use Rattle.tcsb.specs.declared.tcsb.Tcsb.{Tcsb}
-use Rattle.tcsb.specs.declared.tcsb.Founded.{Founded}
 use Rattle.tcsb.specs.Replica.{State, zero_state, counts_fit, found_of}
-use Rattle.tcsb.specs.Tcsb.{has_words, zero_tcsb, view, Sound, inside, founding_of, not_founded, Founds}
+use Rattle.tcsb.specs.Tcsb.{has_words, zero_tcsb, view, Sound, inside, founding_of, Founds}
 use Rattle.tcsb.proofs.Valid.{done_fits, counts_range}
 use Rattle.tcsb.proofs.Founding.{founded-well}
-use Rattle.tcsb.proofs.Calls.{good-after}
+use Rattle.tcsb.proofs.Calls.{good-after, not_both}
+use Rattle.std.specs.Prelude.{Result, Ok, Err}
 
 -- ---- the names
 
@@ -85,39 +89,47 @@ module _ (list : List ℕ) (names : Names) where
 
 -- ---- what founding answers
 
+-- what founding answers to names whose count and lengths are right
+abbrev pub fairly_placed : List (List ℕ) → ℕ → Result State Refusal
+fairly_placed names place = cond (fair names) (cond (ltb place (length names)) (Ok (zero_state names place)) (Err (no 9))) (Err (no 6))
+
+-- a frontier of zeros
+abbrev pub zero_cut : ℕ → CausalFrontier
+zero_cut n = record { members = n; row = record { entries = zero_entries } }
+
 module _ (list : List ℕ) (names : Names) (place : ℕ) (p q : List ℕ) where
-  no_words : has_words (length p) (length q) ≡ false → founding_of list names place p q ≡ refused (no 4)
+  no_words : has_words (length p) (length q) ≡ false → founding_of list names place p q ≡ Err (no 4)
   unfolding founding_of
   no_words h = rw h refl
 
-  not-counted : counts_fit (texts list names) ≡ false → founding_of list names place p q ≡ refused (no 4)
+  not-counted : counts_fit (texts list names) ≡ false → founding_of list names place p q ≡ Err (no 4)
   unfolding founding_of found_of
   not-counted h = go (has_words (length p) (length q) && inside list names)
     where
       go : (b : Bool)
-          → cond b (cond (counts_fit (texts list names)) (cond (fair (texts list names)) (cond (ltb place (length (texts list names))) (whole (zero_state (texts list names) place)) (refused (no 9))) (refused (no 6))) (refused (no 4))) (refused (no 4)) ≡ refused (no 4)
+          → cond b (cond (counts_fit (texts list names)) (fairly_placed (texts list names) place) (Err (no 4))) (Err (no 4)) ≡ Err (no 4)
       go true = rw h refl
       go false = refl
 
-  too_few : names.count < 2 → founding_of list names place p q ≡ refused (no 4)
+  too_few : names.count < 2 → founding_of list names place p q ≡ Err (no 4)
   too_few h = not-counted (few (counts_fit (texts list names)) refl)
     where
       few : (b : Bool) → counts_fit (texts list names) ≡ b → counts_fit (texts list names) ≡ false
       few true e = absurd (omega (arith, (counts_range (texts list names) e).0, count-texts list names))
       few false e = e
 
-  not-inside : inside list names ≡ false → founding_of list names place p q ≡ refused (no 4)
+  not-inside : inside list names ≡ false → founding_of list names place p q ≡ Err (no 4)
   unfolding founding_of
   not-inside h = go (has_words (length p) (length q))
     where
-      go : (b : Bool) → cond (b && inside list names) (found_of (texts list names) place) (refused (no 4)) ≡ refused (no 4)
+      go : (b : Bool) → cond (b && inside list names) (found_of (texts list names) place) (Err (no 4)) ≡ Err (no 4)
       go true = rw h refl
       go false = refl
 
-  unfit : list_fits list names ≡ false → founding_of list names place p q ≡ refused (no 4)
+  unfit : list_fits list names ≡ false → founding_of list names place p q ≡ Err (no 4)
   unfit h = go (inside list names) (counts_fit (texts list names)) refl refl
     where
-      go : (a b : Bool) → inside list names ≡ a → counts_fit (texts list names) ≡ b → founding_of list names place p q ≡ refused (no 4)
+      go : (a b : Bool) → inside list names ≡ a → counts_fit (texts list names) ≡ b → founding_of list names place p q ≡ Err (no 4)
       go false b e f = not-inside e
       go true false e f = not-counted f
       go true true e f = absurd (let y = fits_both_lem list names e f in let z : ◌≡◌ {A = ℕ} 0 1 = cc in omega arith)
@@ -128,33 +140,33 @@ module _ (list : List ℕ) (names : Names) (place : ℕ) (p q : List ℕ) where
     pub fits : list_fits list names ≡ true
     pub two : 2 ≤ names.count
 
-  fit_found : Fit → founding_of list names place p q ≡ cond (fair (texts list names)) (cond (ltb place (length (texts list names))) (whole (zero_state (texts list names) place)) (refused (no 9))) (refused (no 6))
+  fit_found : Fit → founding_of list names place p q ≡ fairly_placed (texts list names) place
   unfolding founding_of found_of
   fit_found f = rw (f.words, fits_inside list names f.fits, fits_counts list names f.fits f.two) refl
 
   -- ---- refusals
 
-  founds_not : {k : Refusal} {r : Founded} → founding_of list names place p q ≡ refused k → r ≡ not_founded k → Founds list names place p q r
-  founds_not e h = record {
-    answers = rw (e, h) refl;
-    leaves = λ st w. absurd (let z : ◌≡◌ {A = ℕ} 0 1 = cc in omega arith);
-    good = λ st w. absurd (let z : ◌≡◌ {A = ℕ} 0 1 = cc in omega arith);
+  founds_not : {k : Refusal} → founding_of list names place p q ≡ Err k → Founds list names place p q (Err k)
+  founds_not e = record {
+    answers = rw e refl;
+    leaves = λ t w. absurd (let z : ◌≡◌ {A = ℕ} 0 1 = cc in omega arith);
+    good = λ t w. absurd (let z : ◌≡◌ {A = ℕ} 0 1 = cc in omega arith);
   }
 
-  pub founds_short : {b : Bool} {r : Founded} → b ≡ has_words (length p) (length q) → not b ≡ true → r ≡ not_founded (no 4) → Founds list names place p q r
-  founds_short e n h = founds_not (no_words (answered_no e n)) h
+  pub founds_short : has_words (length p) (length q) ≡ false → Founds list names place p q (Err (no 4))
+  founds_short n = founds_not (no_words n)
 
-  pub founds_few : {r : Founded} → names.count < 2 → r ≡ not_founded (no 4) → Founds list names place p q r
-  founds_few n h = founds_not (too_few n) h
+  pub founds_few : names.count < 2 → Founds list names place p q (Err (no 4))
+  founds_few n = founds_not (too_few n)
 
-  pub founds_unjudged : {b : Bool} {o : Outcome} {k : Refusal} {r : Founded} → b ≡ has_words (length p) (length q) → not b ≡ false → 2 ≤ names.count → o ≡ list_judged list names
-      → o ≡ outcome.Refused k → r ≡ not_founded k → Founds list names place p q r
-  founds_unjudged {b} {o} {k} w n two j g h = founds_not (go (list_fits list names) (fair (texts list names)) refl refl (sym j ∙ g)) h
+  pub founds_unjudged : {o : Result (Unit {0}) Refusal} {k : Refusal} → has_words (length p) (length q) ≡ true → 2 ≤ names.count → o ≡ list_judged list names → o ≡ Err k
+      → Founds list names place p q (Err k)
+  founds_unjudged {o} {k} w two j g = founds_not (go (list_fits list names) (fair (texts list names)) refl refl (sym j ∙ g))
     where
       go : (a b : Bool) → list_fits list names ≡ a → fair (texts list names) ≡ b
-          → cond a (cond b outcome.Done (outcome.Refused (no 6))) (outcome.Refused (no 4)) ≡ outcome.Refused k → founding_of list names place p q ≡ refused k
+          → ◌≡◌ {A = Result (Unit {0}) Refusal} (cond a (cond b (Ok tt) (Err (no 6))) (Err (no 4))) (Err k) → founding_of list names place p q ≡ Err k
       go false b e f z = rw (unfit e) cc
-      go true false e f z = rw (fit_found (record { words = answered_yes w n; fits = e; two = two }), f) cc
+      go true false e f z = rw (fit_found (record { words = w; fits = e; two = two }), f) cc
       go true true e f z = absurd (let z : ◌≡◌ {A = ℕ} 0 1 = cc in omega arith)
 
   -- the names are judged to be right
@@ -162,29 +174,62 @@ module _ (list : List ℕ) (names : Names) (place : ℕ) (p q : List ℕ) where
     pub fit : Fit
     pub distinct : fair (texts list names) ≡ true
 
-  pub judged : {b : Bool} {o : Outcome} → b ≡ has_words (length p) (length q) → not b ≡ false → 2 ≤ names.count → o ≡ list_judged list names → o ≡ outcome.Done → Judged
-  judged {b} {o} w n two j g = go (list_fits list names) (fair (texts list names)) refl refl (sym j ∙ g)
+  pub judged : {o : Result (Unit {0}) Refusal} → has_words (length p) (length q) ≡ true → 2 ≤ names.count → o ≡ list_judged list names → o ≡ Ok (tt {0}) → Judged
+  judged {o} w two j g = go (list_fits list names) (fair (texts list names)) refl refl (sym j ∙ g)
     where
-      go : (a b : Bool) → list_fits list names ≡ a → fair (texts list names) ≡ b → cond a (cond b outcome.Done (outcome.Refused (no 6))) (outcome.Refused (no 4)) ≡ outcome.Done → Judged
+      go : (a b : Bool) → list_fits list names ≡ a → fair (texts list names) ≡ b
+          → ◌≡◌ {A = Result (Unit {0}) Refusal} (cond a (cond b (Ok tt) (Err (no 6))) (Err (no 4))) (Ok tt) → Judged
       go false b e f z = absurd (let z : ◌≡◌ {A = ℕ} 0 1 = cc in omega arith)
       go true false e f z = absurd (let z : ◌≡◌ {A = ℕ} 0 1 = cc in omega arith)
-      go true true e f z = record { fit = record { words = answered_yes w n; fits = e; two = two }; distinct = f }
+      go true true e f z = record { fit = record { words = w; fits = e; two = two }; distinct = f }
 
-  pub founds_nowhere : {r : Founded} → Judged → names.count ≤ place → r ≡ not_founded (no 9) → Founds list names place p q r
-  founds_nowhere J le h =
-      founds_not (fit_found J.fit ∙ rw (J.distinct, le-ltb place (length (texts list names)) (omega (arith, count-texts list names))) refl) h
+  few-judged : Judged → names.count ≤ 16
+  few-judged J = (fits_list list names J.fit.fits).few
+
+  -- our own place is the only thing that is left to be refused
+  place_judged : Judged → fits_of names.count names.count place place ≡ cond (leb names.count place) (Err (no 9)) (Ok (tt {0}))
+  unfolding fits_of
+  place_judged J = rw (le-ltb names.count 2 J.fit.two, le-ltb 16 names.count (few-judged J), eq-eqb names.count names.count refl) (pick (leb names.count place))
+    where
+      pick : (b : Bool) → cond (b || b) (Err (no 9)) (Ok (tt {0})) ≡ cond b (Err (no 9)) (Ok (tt {0}))
+      pick true = refl
+      pick false = refl
+
+  pub founds_nowhere : {m : Result MatrixClock Refusal} {k : Refusal} → Judged → m ≡ new_matrix place names.count → m ≡ Err k → Founds list names place p q (Err k)
+  founds_nowhere {m} {k} J e h = founds_not (go (leb names.count place) refl (sym e ∙ h))
+    where
+      go : (b : Bool) → leb names.count place ≡ b → new_matrix place names.count ≡ Err k → founding_of list names place p q ≡ Err k
+      go true l z =
+          let le = leb-true names.count place l in
+          let z1 = rw (place_judged J, l) at z in
+          fit_found J.fit ∙ rw (J.distinct, le-ltb place (length (texts list names)) (omega (arith, count-texts list names))) cc
+      go false l z = let z1 = rw (place_judged J, l) at z in absurd (let y : ◌≡◌ {A = ℕ} 0 1 = cc in omega arith)
+
+  -- a matrix that was made is one of zeros, and our place is one of its members'
+  pub matrix_made : {m : Result MatrixClock Refusal} {matrix : MatrixClock} → Judged → m ≡ new_matrix place names.count → m ≡ Ok matrix
+      → (place < names.count) × (matrix ≡ zero_matrix place names.count)
+  matrix_made {m} {matrix} J e h = go (leb names.count place) refl (sym e ∙ h)
+    where
+      go : (b : Bool) → leb names.count place ≡ b → new_matrix place names.count ≡ Ok matrix → (place < names.count) × (matrix ≡ zero_matrix place names.count)
+      go true l z = let z1 = rw (place_judged J, l) at z in absurd (let y : ◌≡◌ {A = ℕ} 0 1 = cc in omega arith)
+      go false l z = let z1 = rw (place_judged J, l) at z in (leb-false names.count place l, sym (whole_same z1))
+
+  -- no frontier is refused then
+  cut_judged : Judged → new_frontier names.count ≡ Ok (zero_cut names.count)
+  cut_judged J =
+      let some : 0 < names.count = omega (arith, J.fit.two) in
+      rw (done_fits names.count names.count 0 0 (record { two = J.fit.two; few = few-judged J; like = refl; place = some; another = some })) refl
+
+  pub cut_made : {f : Result CausalFrontier Refusal} {frontier : CausalFrontier} → Judged → f ≡ new_frontier names.count → f ≡ Ok frontier → frontier ≡ zero_cut names.count
+  cut_made J e h = whole_same (sym h ∙ (e ∙ cut_judged J))
+
+  pub cut_refused : {f : Result CausalFrontier Refusal} {k : Refusal} → Judged → f ≡ new_frontier names.count → f ≡ Err k → ⊥
+  cut_refused J e h = not_both (sym (cut_judged J) ∙ (sym e ∙ h))
 
   -- ---- the replica of zeros
 
-  zero-view : Fit → place < names.count → view (zero_tcsb names place) list p q ≡ zero_state (texts list names) place
-  zero-view f lt =
-      let n = count-texts list names in
-      let few = (fits_list list names f.fits).few in
-      rw (
-        done_fits names.count names.count place place (record { two = f.two; few = few; like = refl; place = lt; another = lt }),
-        done_fits names.count names.count 0 0 (record { two = f.two; few = few; like = refl; place = omega (arith, f.two); another = omega (arith, f.two) }),
-        n,
-      ) refl
+  zero-view : view (zero_tcsb names place) list p q ≡ zero_state (texts list names) place
+  zero-view = rw (count-texts list names) refl
 
   zero-sound : Fit → Sound (zero_tcsb names place) list p q
   zero-sound f =
@@ -196,7 +241,7 @@ module _ (list : List ℕ) (names : Names) (place : ℕ) (p q : List ℕ) where
         inside = f.fits;
       }
 
-  fit_whole : Judged → place < names.count → found_of (texts list names) place ≡ whole (zero_state (texts list names) place)
+  fit_whole : Judged → place < names.count → found_of (texts list names) place ≡ Ok (zero_state (texts list names) place)
   unfolding found_of
   fit_whole J lt =
       rw (
@@ -205,16 +250,13 @@ module _ (list : List ℕ) (names : Names) (place : ℕ) (p q : List ℕ) where
         lt-ltb place (length (texts list names)) (omega (arith, count-texts list names)),
       ) refl
 
-  pub founds_done : {t : Tcsb} → Judged → place < names.count → t ≡ zero_tcsb names place → Founds list names place p q (record { outcome = outcome.Done; tcsb = t })
+  pub founds_done : {t : Tcsb} → Judged → place < names.count → t ≡ zero_tcsb names place → Founds list names place p q (Ok t)
   founds_done {t} J lt h =
       rw h (record {
         answers = rw is refl;
-        leaves = λ st e. zero-view J.fit lt ∙ same st e;
-        good = λ st e. good-after (zero-sound J.fit) (zero-view J.fit lt) (founded-well (texts list names) place (zero_state (texts list names) place) (fit_whole J lt));
+        leaves = λ t' e. is ∙ ap Ok (sym zero-view ∙ ap (λ (u : Tcsb). view u list p q) (whole_same e));
+        good = λ t' e. rw (← whole_same e) (good-after (zero-sound J.fit) zero-view (founded-well (texts list names) place (zero_state (texts list names) place) (fit_whole J lt)));
       })
     where
-      is : founding_of list names place p q ≡ whole (zero_state (texts list names) place)
+      is : founding_of list names place p q ≡ Ok (zero_state (texts list names) place)
       is = fit_found J.fit ∙ rw (J.distinct, lt-ltb place (length (texts list names)) (omega (arith, count-texts list names))) refl
-
-      same : (st : State) → founding_of list names place p q ≡ whole st → zero_state (texts list names) place ≡ st
-      same st e = whole_same (sym is ∙ e)

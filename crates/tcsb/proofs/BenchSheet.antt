@@ -3,7 +3,7 @@ use mathlib.Core.Path.{refl}
 use Rattle.lists.specs.Lists.{tab, over, all, any, least}
 use Rattle.leb128.specs.Leb128.{field, value_of, closed, padded, field_read, groups}
 use Rattle.clock.specs.Version.{fits_of, dependencies_to}
-use Rattle.telegram.specs.Fields.{number, kind, counted, placed, part, sized, many}
+use Rattle.telegram.specs.Fields.{kind, counted, placed, part, sized, many}
 use Rattle.telegram.specs.Reading.{names, list, entries, body, texts, fair_bytes, same_bytes, fair_at, fair, event_form}
 use Rattle.store.specs.Orders.{insert_sorted, del_at, keep}
 use Rattle.tcsb.specs.Internalizer.{place_of, translation_of, continues, our_entries, event_of}
@@ -11,7 +11,7 @@ use Rattle.tcsb.specs.Replica.{admitted, is_duplicate, is_stale, verdict_of, ins
 use Rattle.tcsb.specs.BenchSheet.{Rows, nexts}
 
 pub rows_hold : Rows
-unfolding tab over all any least field value_of closed padded field_read groups fits_of dependencies_to number kind counted placed part sized many names list entries body texts fair_bytes same_bytes fair_at fair event_form insert_sorted del_at keep place_of translation_of continues our_entries event_of admitted is_duplicate is_stale verdict_of insert_all recorded receive_of send_of is_ready delivered first_ready frontier_call nexts
+unfolding tab over all any least field value_of closed padded field_read groups fits_of dependencies_to kind counted placed part sized many names list entries body texts fair_bytes same_bytes fair_at fair event_form insert_sorted del_at keep place_of translation_of continues our_entries event_of admitted is_duplicate is_stale verdict_of insert_all recorded receive_of send_of is_ready delivered first_ready frontier_call nexts
 rows_hold = record {
   greater = refl;
   less = refl;

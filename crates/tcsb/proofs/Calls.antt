@@ -9,15 +9,13 @@ use lib.Dec.{leb}
 use borrow.Author.Tests.{le-leb}
 use Rattle.refusal.specs.declared.Refusal.{Refusal}
 use Rattle.refusal.specs.Refusal.{no}
-use Rattle.leb128.specs.declared.Written.{Written}
-use Rattle.leb128.specs.declared.Written.TheVariants as written
-use Rattle.telegram.specs.Reading.{Whole, whole, refused}
 use Rattle.telegram.specs.Writing.{Wrote}
 use Rattle.telegram.proofs.Parts.{fits_list}
 use Rattle.tcsb.specs.Replica.{State, Call, not_done, state_after}
 use Rattle.tcsb.specs.WellFormed.{WellFormed}
 use Rattle.tcsb.specs.Tcsb.{has_words, view, Sound, Good, Does, DoesIf, Writes}
 use Rattle.tcsb.specs.declared.tcsb.Tcsb.{Tcsb}
+use Rattle.std.specs.Prelude.{Result, Ok, Err}
 
 -- the parts are sound, and the replica is what a well-formed state says
 pub good-after : {t : Tcsb} {list p q : List ℕ} {st : State} → Sound t list p q → view t list p q ≡ st → WellFormed st → Good t list p q
@@ -49,12 +47,12 @@ words_none e g = true≢false (sym (words_fit g) ∙ e)
 -- ---- refusals
 
 -- no answer is a refusal, too
-pub not_both : {A : Type 0} {a : A} {k : Refusal} → whole a ≡ refused k → ⊥
+pub not_both : {A : Type 0} {a : A} {k : Refusal} → Ok a ≡ Err k → ⊥
 not_both e = let z : ◌≡◌ {A = ℕ} 0 1 = cc in omega arith
 
 -- refused with 4 where no good replica has these words
 pub does_short : {A : Type 0} {list p q : List ℕ} {words : Bool} {t : Tcsb} {want : State → Call A} → (Good t list p q → ⊥)
-    → Does list p p q q words t t (refused (no 4)) want
+    → Does list p p q q words t t (Err (no 4)) want
 does_short h = record {
   answers = λ g. absurd (h g);
   leaves = λ g. absurd (h g);
@@ -64,7 +62,7 @@ does_short h = record {
 }
 
 pub writes_short : {list p q out : List ℕ} {words : Bool} {t : Tcsb} {want : State → Call (List ℕ)} → (Good t list p q → ⊥)
-    → Writes list p p q q out out words t t (written.Refused (no 4)) want
+    → Writes list p p q q out out words t t (Err (no 4)) want
 writes_short h = record {
   wrote = λ g. absurd (h g);
   leaves = λ g. absurd (h g);
@@ -75,7 +73,7 @@ writes_short h = record {
 
 -- a part of a call
 pub refused_if : {fact : Type 0} {A : Type 0} {list p q : List ℕ} {t : Tcsb} {k : Refusal} {want : State → Call A} → (fact → Good t list p q → want (view t list p q) ≡ not_done k)
-    → DoesIf fact list p p q q t t (refused k) want
+    → DoesIf fact list p p q q t t (Err k) want
 refused_if h = record {
   answers = λ f g. rw (h f g) refl;
   leaves = λ f g. rw (h f g) refl;
@@ -85,7 +83,7 @@ refused_if h = record {
 
 -- a call whose words are long enough
 pub refused_call : {A : Type 0} {list p q : List ℕ} {words : Bool} {t : Tcsb} {k : Refusal} {want : State → Call A} → words ≡ true
-    → (Good t list p q → want (view t list p q) ≡ not_done k) → Does list p p q q words t t (refused k) want
+    → (Good t list p q → want (view t list p q) ≡ not_done k) → Does list p p q q words t t (Err k) want
 refused_call w h = record {
   answers = λ g. rw (h g) refl;
   leaves = λ g. rw (h g) refl;
@@ -97,7 +95,8 @@ refused_call w h = record {
 -- ---- a call and its part
 
 -- a call is its part, where the words are long enough, the fact holds of a good replica, and its definition keeps states well-formed
-pub does_part : {fact : Type 0} {A : Type 0} {list p p' q q' : List ℕ} {words : Bool} {t t' : Tcsb} {answer : Whole A} (want : State → Call A) → words ≡ true → (Good t list p q → fact)
+pub does_part : {fact : Type 0} {A : Type 0} {list p p' q q' : List ℕ} {words : Bool} {t t' : Tcsb} {answer : Result A Refusal} (want : State → Call A)
+    → words ≡ true → (Good t list p q → fact)
     → ((st : State) → WellFormed st → WellFormed (state_after st (want st))) → DoesIf fact list p p' q q' t t' answer want
     → Does list p p' q q' words t t' answer want
 does_part want w f keeps d = record {
@@ -110,22 +109,22 @@ does_part want w f keeps d = record {
 
 -- ---- whether the bytes of an answer fit into the buffer lent
 
-module _ (b : List ℕ) {out after : List ℕ} {answer : Written} (w : Wrote out after 0 0 (whole b) answer) where
-  answer_is : answer ≡ cond (leb (length b) (length out)) (written.Next (0 + length b)) (written.Refused (no 15))
-  answer_is = w.answers ∙ ap (λ (n : ℕ). cond (leb n (length out)) (written.Next (0 + length b)) (written.Refused (no 15))) (omega arith)
+module _ (b : List ℕ) {out after : List ℕ} {answer : Result ℕ Refusal} (w : Wrote out after 0 0 (Ok b) answer) where
+  answer_is : answer ≡ cond (leb (length b) (length out)) (Ok (0 + length b)) (Err (no 15))
+  answer_is = w.answers ∙ ap (λ (n : ℕ). cond (leb n (length out)) (Ok (0 + length b)) (Err (no 15))) (omega arith)
 
   -- nothing was written, so they don't
-  pub room-none : {k : Refusal} → answer ≡ written.Refused k → leb (length b) (length out) ≡ false
+  pub room-none : {k : Refusal} → answer ≡ Err k → leb (length b) (length out) ≡ false
   room-none {k} e = go (leb (length b) (length out)) answer_is
     where
-      go : (r : Bool) → answer ≡ cond r (written.Next (0 + length b)) (written.Refused (no 15)) → r ≡ false
+      go : (r : Bool) → answer ≡ cond r (Ok (0 + length b)) (Err (no 15)) → r ≡ false
       go true f = absurd (let z : ◌≡◌ {A = ℕ} 0 1 = cc in omega arith)
       go false f = refl
 
   -- something was written, so they do
-  pub room-some : {next : ℕ} → answer ≡ written.Next next → leb (length b) (length out) ≡ true
+  pub room-some : {next : ℕ} → answer ≡ Ok next → leb (length b) (length out) ≡ true
   room-some {next} e = go (leb (length b) (length out)) answer_is
     where
-      go : (r : Bool) → answer ≡ cond r (written.Next (0 + length b)) (written.Refused (no 15)) → r ≡ true
+      go : (r : Bool) → answer ≡ cond r (Ok (0 + length b)) (Err (no 15)) → r ≡ true
       go true f = refl
       go false f = absurd (let z : ◌≡◌ {A = ℕ} 0 1 = cc in omega arith)

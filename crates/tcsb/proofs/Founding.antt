@@ -14,12 +14,13 @@ use Rattle.lists.proofs.Laws.{length-tab}
 use Rattle.clock.specs.declared.version_vector.Row.{Row}
 use Rattle.clock.specs.Entries.{zero_entries}
 use Rattle.clock.specs.Matrix.{zero_row, row_of, cell, zero_matrix}
-use Rattle.telegram.specs.Reading.{whole, refused, fair}
+use Rattle.telegram.specs.Reading.{fair}
 use Rattle.tcsb.specs.Internalizer.{no_translation}
 use Rattle.tcsb.specs.Replica.{State, zero_state, counts_fit, found_of}
 use Rattle.tcsb.specs.WellFormed.{GoodEntries, GoodRow, WellFormed}
 use Rattle.tcsb.proofs.Places.{tab-each}
 use Rattle.tcsb.proofs.Valid.{facts_valid, counts_range}
+use Rattle.std.specs.Prelude.{Ok, Err}
 
 pub zero-at : (j : ℕ) → at zero_entries j ≡ 0
 zero-at j = tab-each {A = ℕ} 16 0 j
@@ -70,12 +71,12 @@ zero-well names place c d h = record {
   keeps = λ e m. absurd (Memᴰ.not-nil m);
 }
 
-pub founded-well : (names : List (List ℕ)) (place : ℕ) (st : State) → found_of names place ≡ whole st → WellFormed st
+pub founded-well : (names : List (List ℕ)) (place : ℕ) (st : State) → found_of names place ≡ Ok st → WellFormed st
 unfolding found_of
 founded-well names place st = go (counts_fit names) (fair names) (ltb place (length names)) refl refl refl
   where
     go : (a b c : Bool) → counts_fit names ≡ a → fair names ≡ b → ltb place (length names) ≡ c
-        → cond a (cond b (cond c (whole (zero_state names place)) (refused (no 9))) (refused (no 6))) (refused (no 4)) ≡ whole st → WellFormed st
+        → cond a (cond b (cond c (Ok (zero_state names place)) (Err (no 9))) (Err (no 6))) (Err (no 4)) ≡ Ok st → WellFormed st
     go false b c p q r h = absurd (let z : ◌≡◌ {A = ℕ} 0 1 = cc in omega arith)
     go true false c p q r h = absurd (let z : ◌≡◌ {A = ℕ} 0 1 = cc in omega arith)
     go true true false p q r h = absurd (let z : ◌≡◌ {A = ℕ} 0 1 = cc in omega arith)

@@ -1,5 +1,5 @@
 -- What a telegram that is read holds, whatever its bytes: places, numbers and lengths within their ranges. Assumes nothing.
-use mathlib.Core.Path.{◌≡◌, refl, sym, ap}
+use mathlib.Core.Path.{◌≡◌, refl}
 use mathlib.Core.Bool.{Bool, true, false, cond, ◌||◌}
 use mathlib.Core.List.{List}
 use mathlib.Core.Logic.{⊎_elim}
@@ -13,10 +13,9 @@ use Rattle.lists.specs.Lists.{at}
 use Rattle.lists.proofs.Cases.{split}
 use Rattle.lists.proofs.Laws.{length-tab, get_or-tab}
 use Rattle.lists.proofs.Joined.{Each, each_none, each_more}
-use Rattle.leb128.specs.declared.NumberRead.TheVariants as numberRead
-use Rattle.leb128.specs.Leb128.{last_number, value_of, closed, padded, field_read, read_at}
-use Rattle.telegram.specs.Fields.{Got, got, number, kind, counted, placed, part, sized, many}
-use Rattle.telegram.specs.Reading.{whole, filled, list, entries, body, head, exception, texts, fair, event_form, batch_form, since_form, event, batch, since, event_read, batch_read, since_read}
+use Rattle.leb128.specs.Leb128.{last_number, value_of, closed, padded, field_read}
+use Rattle.telegram.specs.Fields.{number, kind, counted, placed, part, sized, many}
+use Rattle.telegram.specs.Reading.{filled, list, entries, body, head, exception, texts, fair, event_form, batch_form, since_form, event, batch, since}
 use Rattle.telegram.specs.declared.field.Part.{Part}
 use Rattle.telegram.specs.declared.list.Names.{Names}
 use Rattle.telegram.specs.declared.body.Body.{Body}
@@ -24,29 +23,31 @@ use Rattle.telegram.specs.declared.event.Event.{Event}
 use Rattle.telegram.specs.declared.head.Head.{Head}
 use Rattle.telegram.specs.declared.batch.Batch.{Batch}
 use Rattle.telegram.specs.declared.since.Since.{Since}
-use Rattle.telegram.proofs.Steps.{number_told_lem, got_carry, after_is, if_got, judged-is, ended_is, fairly-is}
+use Rattle.telegram.proofs.Steps.{got_carry, after_is, if_got, judged-is, ended_is, fairly-is}
 use Rattle.telegram.proofs.Inside.{counted_range, event-names, batch-names, since-names}
 use Rattle.telegram.proofs.Accepted.{each-or-none}
+use Rattle.std.specs.Prelude.{Ok, Err}
+use Rattle.leb128.specs.Leb128.{Read, got}
+use Rattle.leb128.proofs.Gots.{got_value}
 
 -- ---- numbers
 
 -- a field that is read isn't too large
-field_most : (f : List ℕ) (at n next : ℕ) → field_read f at ≡ numberRead.Value n next → n ≤ last_number
+field_most : (f : List ℕ) (at n next : ℕ) → field_read f at ≡ got n next → n ≤ last_number
 unfolding field_read
 field_most f at n next = go (closed f) (ltb last_number (value_of f)) (padded f) (ltb (length f) 5) (ltb-false last_number (value_of f))
   where
     go : (c t p u : Bool) → (t ≡ false → value_of f ≤ last_number)
-        → cond c (cond (t || p) (numberRead.Refused (no 2)) (numberRead.Value (value_of f) (at + length f))) (cond u (numberRead.Refused (no 1)) (numberRead.Refused (no 2))) ≡ numberRead.Value n next
+        → cond c (cond (t || p) (Err (no 2)) (got (value_of f) (at + length f))) (cond u (Err (no 1)) (Err (no 2))) ≡ got n next
         → n ≤ last_number
     go true true p u h e = absurd (let z : ◌≡◌ {A = ℕ} 0 1 = cc in omega arith)
     go true false true u h e = absurd (let z : ◌≡◌ {A = ℕ} 0 1 = cc in omega arith)
-    go true false false u h e = let q : value_of f ≡ n = cc in omega (arith, h refl)
+    go true false false u h e = let q : value_of f ≡ n = got_value e in omega (arith, h refl)
     go false t p true h e = absurd (let z : ◌≡◌ {A = ℕ} 0 1 = cc in omega arith)
     go false t p false h e = absurd (let z : ◌≡◌ {A = ℕ} 0 1 = cc in omega arith)
 
 number_most : (s : List ℕ) (at n next : ℕ) → number s at ≡ got n next → n ≤ last_number
-unfolding number
-number_most s at n next e = field_most _ at n next (number_told_lem (read_at s at) n next e)
+number_most s at n next e = field_most _ at n next e
 
 placed_below : (count : ℕ) (s : List ℕ) (at n next : ℕ) → placed count s at ≡ got n next → n < count
 unfolding placed
@@ -54,7 +55,7 @@ placed_below count s at n next e = ltb-true n count (judged-is (no 9) (λ n. ltb
 
 -- ---- several things
 
-many-each : {A : Type 0} (P : A → Type 0) (f : ℕ → Got A) → ((at : ℕ) (a : A) (next : ℕ) → f at ≡ got a next → P a) → (k at : ℕ) (l : List A) (next : ℕ)
+many-each : {A : Type 0} (P : A → Type 0) (f : ℕ → Read A) → ((at : ℕ) (a : A) (next : ℕ) → f at ≡ got a next → P a) → (k at : ℕ) (l : List A) (next : ℕ)
     → many k f at ≡ got l next → Each P l
 unfolding many
 many-each P f h zero at l next e = got_carry (λ l next. Each P l) e (each_none P)
@@ -125,7 +126,7 @@ head-listed k s h next e =
     after_is (entries l.count s c) _ e3 (λ version end ev eq.
     got_carry (λ (h : Head) next. h.sender.0 < h.names.count) eq (placed_below l.count s b sender c ep)))))
 
-event-body : (s : List ℕ) (t : Event) → event_form s ≡ whole t → BodyHeard t.names.count t.body
+event-body : (s : List ℕ) (t : Event) → event_form s ≡ Ok t → BodyHeard t.names.count t.body
 unfolding event_form
 event-body s t h =
     after_is (kind 1 s 0) _ (ended_is s _ h) (λ _ a ek e1.
@@ -133,7 +134,7 @@ event-body s t h =
     after_is (body l.count s b) _ e2 (λ x end eb eq.
     got_carry (λ (t : Event) next. BodyHeard t.names.count t.body) eq (body_heard l.count s b x end eb))))
 
-batch-listed : (s : List ℕ) (t : Batch) → batch_form s ≡ whole t → t.head.sender.0 < t.head.names.count
+batch-listed : (s : List ℕ) (t : Batch) → batch_form s ≡ Ok t → t.head.sender.0 < t.head.names.count
 unfolding batch_form
 batch-listed s t h =
     after_is (head 2 s) _ (ended_is s _ h) (λ x mid eh e1.
@@ -141,7 +142,7 @@ batch-listed s t h =
     after_is (many count (body x.names.count s) start) _ e2 (λ items end em eq.
     got_carry (λ (t : Batch) next. t.head.sender.0 < t.head.names.count) eq (head-listed 2 s x mid eh))))
 
-since-listed : (s : List ℕ) (t : Since) → since_form s ≡ whole t → t.head.sender.0 < t.head.names.count
+since-listed : (s : List ℕ) (t : Since) → since_form s ≡ Ok t → t.head.sender.0 < t.head.names.count
 unfolding since_form
 since-listed s t h =
     after_is (head 3 s) _ (ended_is s _ h) (λ x mid eh e1.
@@ -149,18 +150,18 @@ since-listed s t h =
     after_is (many count (exception x.names.count s) start) _ e2 (λ items end em eq.
     got_carry (λ (t : Since) next. t.head.sender.0 < t.head.names.count) eq (head-listed 3 s x mid eh))))
 
-pub event_heard : (s : List ℕ) (t : Event) → event s ≡ whole t → ListHeard s t.names t.body.place.0 × BodyHeard t.names.count t.body
+pub event_heard : (s : List ℕ) (t : Event) → event s ≡ Ok t → ListHeard s t.names t.body.place.0 × BodyHeard t.names.count t.body
 event_heard s t e =
     let f = fairly-is s (λ (t : Event). t.names) (event_form s) e in
     let b = event-body s t f.0 in
-    (record { few = (event-names {r = event_read (whole t)} s (ap event_read (sym f.0)) refl).few; distinct = f.1; listed = b.listed }, b)
+    (record { few = (event-names s t f.0).few; distinct = f.1; listed = b.listed }, b)
 
-pub batch_heard : (s : List ℕ) (t : Batch) → batch s ≡ whole t → ListHeard s t.head.names t.head.sender.0
+pub batch_heard : (s : List ℕ) (t : Batch) → batch s ≡ Ok t → ListHeard s t.head.names t.head.sender.0
 batch_heard s t e =
     let f = fairly-is s (λ (t : Batch). t.head.names) (batch_form s) e in
-    record { few = (batch-names {r = batch_read (whole t)} s (ap batch_read (sym f.0)) refl).few; distinct = f.1; listed = batch-listed s t f.0 }
+    record { few = (batch-names s t f.0).few; distinct = f.1; listed = batch-listed s t f.0 }
 
-pub since_heard : (s : List ℕ) (t : Since) → since s ≡ whole t → ListHeard s t.head.names t.head.sender.0
+pub since_heard : (s : List ℕ) (t : Since) → since s ≡ Ok t → ListHeard s t.head.names t.head.sender.0
 since_heard s t e =
     let f = fairly-is s (λ (t : Since). t.head.names) (since_form s) e in
-    record { few = (since-names {r = since_read (whole t)} s (ap since_read (sym f.0)) refl).few; distinct = f.1; listed = since-listed s t f.0 }
+    record { few = (since-names s t f.0).few; distinct = f.1; listed = since-listed s t f.0 }

@@ -11,10 +11,6 @@ use lib.Dec.{ltb, eqb}
 use borrow.Author.Tests.{eq-eqb, eqb-true, ltb-false}
 use Rattle.telegram.specs.declared.body.Body.{Body}
 use Rattle.store.specs.declared.event.Event.{Event}
-use Rattle.store.specs.declared.order.Cmp.{Cmp}
-use Rattle.store.specs.declared.order.Cmp.TheVariants.{Less, Same, More}
-use Rattle.store.specs.declared.order.Found.{Found}
-use Rattle.store.specs.declared.order.Found.TheVariants.{At, Gap}
 use Rattle.store.specs.Orders.{choose, cmp_of, find_from, insert_sorted, keep, In, HasId, Sorted}
 use Rattle.store.proofs.Sorting.{find_at, find_gap}
 use Rattle.tcsb.specs.declared.internalizer.Translation.{Translation}
@@ -25,6 +21,9 @@ use Rattle.tcsb.specs.Receive.{new_to}
 use Rattle.tcsb.specs.Survey.{has_in}
 use Rattle.tcsb.proofs.Receiving.{insert_all_sorted}
 use Rattle.tcsb.proofs.Taking.{insert_length}
+use Rattle.std.specs.Prelude.{Result, Ok, Err}
+use Rattle.std.specs.declared.cmp.Ordering.{Ordering}
+use Rattle.std.specs.declared.cmp.Ordering.TheVariants.{Less, Equal, Greater}
 
 -- ---- Booleans
 
@@ -77,17 +76,17 @@ pub new_to_lem : (o n : ℕ) (l : List Event) → Sorted l → new_to (find_from
 new_to_lem o n [] s = new_none o n
 new_to_lem o n (x ∷ l) s = go (find_from o n 0 (x ∷ l)) refl
   where
-    go : (f : Found) → find_from o n 0 (x ∷ l) ≡ f → new_to f ≡ cond (has_in o n (x ∷ l)) 0 1
-    go (At i) e = let h = find_at o n i (x ∷ l) e in rw (has-at o n (x ∷ l) i x h.0 (h.1 x)) refl
-    go (Gap i) e = rw (has-none o n (x ∷ l) (find_gap o n i (x ∷ l) s e)) refl
+    go : (f : Result ℕ ℕ) → find_from o n 0 (x ∷ l) ≡ f → new_to f ≡ cond (has_in o n (x ∷ l)) 0 1
+    go (Ok i) e = let h = find_at o n i (x ∷ l) e in rw (has-at o n (x ∷ l) i x h.0 (h.1 x)) refl
+    go (Err i) e = rw (has-none o n (x ∷ l) (find_gap o n i (x ∷ l) s e)) refl
 
 -- ---- insert_sorted
 
 -- events that compare as the same have the same id
-cmp_same : (a b o n : ℕ) → cmp_of a b o n ≡ Same → (a ≡ o) × (b ≡ n)
+cmp_same : (a b o n : ℕ) → cmp_of a b o n ≡ Equal → (a ≡ o) × (b ≡ n)
 cmp_same a b o n = go (ltb a o) (ltb o a) (ltb b n) (ltb n b) refl refl refl refl
   where
-    go : (p q r s : Bool) → ltb a o ≡ p → ltb o a ≡ q → ltb b n ≡ r → ltb n b ≡ s → cond p Less (cond q More (cond r Less (cond s More Same))) ≡ Same
+    go : (p q r s : Bool) → ltb a o ≡ p → ltb o a ≡ q → ltb b n ≡ r → ltb n b ≡ s → cond p Less (cond q Greater (cond r Less (cond s Greater Equal))) ≡ Equal
         → (a ≡ o) × (b ≡ n)
     go true q r s e f g h c = absurd (let z : ◌≡◌ {A = ℕ} 0 1 = cc in omega arith)
     go false true r s e f g h c = absurd (let z : ◌≡◌ {A = ℕ} 0 1 = cc in omega arith)
@@ -101,13 +100,13 @@ unfolding has_in insert_sorted
 has_insert o n e [] = refl
 has_insert o n e (x ∷ l) = go (cmp_of x.origin.0 x.number e.origin.0 e.number) refl (has_insert o n e l)
   where
-    go : (r : Cmp) → cmp_of x.origin.0 x.number e.origin.0 e.number ≡ r → has_in o n (insert_sorted e l) ≡ (id_is o n e || has_in o n l)
+    go : (r : Ordering) → cmp_of x.origin.0 x.number e.origin.0 e.number ≡ r → has_in o n (insert_sorted e l) ≡ (id_is o n e || has_in o n l)
         → has_in o n (choose r (x ∷ insert_sorted e l) (e ∷ l) (e ∷ x ∷ l)) ≡ (id_is o n e || (id_is o n x || has_in o n l))
     go Less c h = rw h (or_swap (id_is o n x) (id_is o n e) (has_in o n l))
-    go Same c h =
+    go Equal c h =
         let q = cmp_same x.origin.0 x.number e.origin.0 e.number c in
         rw (q.0, q.1) (sym (or_self_left (id_is o n e) (has_in o n l)))
-    go More c h = refl
+    go Greater c h = refl
 
 -- ---- insert_all
 
@@ -133,7 +132,9 @@ pub has_all : (o n : ℕ) (es l : List Event) → has_in o n (insert_all es l) �
 unfolding has_in insert_all
 has_all o n [] l = refl
 has_all o n (e ∷ es) l =
-    has_all o n es (insert_sorted e l) ∙ rw (has_insert o n e l) (or_swap (has_in o n es) (id_is o n e) (has_in o n l) ∙ sym (or_assoc (id_is o n e) (has_in o n es) (has_in o n l)))
+    has_all o n es (insert_sorted e l)
+    ∙ rw (has_insert o n e l)
+    (or_swap (has_in o n es) (id_is o n e) (has_in o n l) ∙ sym (or_assoc (id_is o n e) (has_in o n es) (has_in o n l)))
 
 -- one event more whose id is among those put in: no longer; whose id isn't: longer by one where it is new
 pub one_again : (es l : List Event) (e : Event) → Sorted l → has_in e.origin.0 e.number es ≡ true
@@ -177,7 +178,8 @@ count-append st v [] e = go (same_verdict (verdict_of st e) v)
 count-append st v (x ∷ es) e = go (same_verdict (verdict_of st x) v) (count-append st v es e)
   where
     go : (b : Bool) → count_of st v (es ++ (e ∷ [])) ≡ count_of st v es + cond (same_verdict (verdict_of st e) v) 1 0
-        → cond b (suc (count_of st v (es ++ (e ∷ [])))) (count_of st v (es ++ (e ∷ []))) ≡ cond b (suc (count_of st v es)) (count_of st v es) + cond (same_verdict (verdict_of st e) v) 1 0
+        → cond b (suc (count_of st v (es ++ (e ∷ [])))) (count_of st v (es ++ (e ∷ [])))
+        ≡ cond b (suc (count_of st v es)) (count_of st v es) + cond (same_verdict (verdict_of st e) v) 1 0
     go true h = omega arith
     go false h = h
 

@@ -1,235 +1,177 @@
 -- Names to places as the code finds them: what its loops keep, turn by turn, and what its answers say. Assumes nothing.
 use mathlib.Core.Path.{◌≡◌, refl, sym, ap, ◌∙◌}
 use mathlib.Core.Bool.{Bool, true, false, cond, not}
-use mathlib.Core.List.{List, [], ◌∷◌}
+use mathlib.Core.List.{List, [], ◌∷◌, ◌++◌, map}
 use mathlib.Core.Logic.{⊎_elim}
 use Prim.Native.Nat.{ℕ, suc, ◌+◌, ◌-◌, ◌≤◌, ◌<◌, min}
-use native.Mathlib.Nat.{not-suc-le-zero}
 use native.Mathlib.Numerals.{add-one}
 use native.Mathlib.Omega.{arith}
-use lib.ListN.{length, get_or, set, drop, replicate, get_or-replicate, length-take, length-drop, drop_of_length-le, get_or-eq_default}
-use lib.Seq.{drop-cons}
-use lib.Dec.{ltb, eqb}
-use borrow.Author.Tests.{lt-ltb, le-ltb, lt-leb, le-leb, eq-eqb, ne_eqb, not-true, not-false}
-use Rattle.refusal.specs.declared.Refusal.{Refusal}
-use Rattle.refusal.specs.declared.Outcome.TheVariants as outcome
+use lib.ListN.{length, get_or, set, take, drop, replicate, get_or-replicate, length-replicate, length-map, get_or-map, length-append, length-drop, get_or-append, get_or-eq_default}
+use lib.Seq.{length-take-le, get_or-take, get_or-drop, get_or-append_right}
+use lib.Dec.{ltb, leb, eqb}
+use borrow.Author.Tests.{lt-ltb, ltb-true, le-leb, eq-eqb, eqb-true}
 use Rattle.refusal.specs.Refusal.{no}
-use Rattle.lists.specs.Lists.{at, all}
+use Rattle.lists.specs.Lists.{at, tab, over}
 use Rattle.lists.proofs.Cases.{split}
-use Rattle.lists.proofs.Laws.{all_fails, all-each}
-use Rattle.lists.proofs.Turns.{Making, make_none, make_more, make_skip, make_tab}
+use Rattle.lists.proofs.Laws.{all_fails, is-tab, length_over, over-at}
+use Rattle.lists.proofs.Turns.{Making, make_none, make_more, make_all, Passing, pass_none, pass_more, pass_all}
 use Rattle.clock.specs.Entries.{zero_entries}
+use Rattle.clock.proofs.Entrywise.{all_told}
 use Rattle.telegram.specs.Fields.{text}
-use Rattle.telegram.specs.Reading.{Whole, whole, refused, texts, same_bytes}
+use Rattle.telegram.specs.Reading.{nowhere, texts, same_bytes}
 use Rattle.telegram.specs.declared.field.Part.{Part}
 use Rattle.telegram.specs.declared.list.Names.{Names}
 use Rattle.telegram.proofs.Parts.{part_of, texts-at}
 use Rattle.telegram.proofs.Filled.{count-texts}
 use Rattle.tcsb.specs.declared.internalizer.Translation.{Translation}
-use Rattle.tcsb.specs.declared.internalizer.Translated.{Translated}
-use Rattle.tcsb.specs.Internalizer.{no_translation, place_of, translation_of, translated, continues, our_place, our_entries}
-use Rattle.tcsb.specs.Replica.{admitted_by}
-
--- a byte that a part doesn't have
-pub byte_none : (s : List ℕ) (p : Part) (k : ℕ) → min p.len (length s - p.start) ≤ k → 0 ≡ at (text s p) k
-byte_none s p k h =
-    sym (get_or-eq_default (text s p) 0 {n = k} (omega (arith, length-take p.len (drop p.start s), length-drop p.start s)))
+use Rattle.tcsb.specs.Internalizer.{place_of, member_at, translation_of, continues, our_place, our_entries}
+use Rattle.std.specs.Prelude.{Ok, Err, Option, Some, None, IsTrue, ◌↔◌}
+use Rattle.std.specs.List.{position_or_len}
 
 -- ---- the place of a name
 
--- the first i names are others
-pub record Placing (s : List ℕ) (names : Names) (t : List ℕ) (i : ℕ) : Type 0 where
-  pub within : i ≤ names.count
-  pub so_far : place_of (texts s names) t ≡ i + place_of (drop i (texts s names)) t
+-- whether a part is a name
+abbrev is_name : List ℕ → List ℕ → Part → Bool
+is_name s t p = same_bytes (text s p) t
 
--- the name at a place and those behind it
-place_left : (s : List ℕ) (names : Names) (i : ℕ) → i < names.count → drop i (texts s names) ≡ text s (part_of names i) ∷ drop (suc i) (texts s names)
-place_left s names i h = drop-cons (texts s names) i [] (omega (arith, count-texts s names)) ∙ rw (texts-at s names i h) refl
+texts-listed : (s : List ℕ) (names : Names) → names.count ≤ length names.parts → texts s names ≡ map (text s) (take names.count names.parts)
+unfolding texts
+texts-listed s names h =
+    let n = length-take-le names.count names.parts h in
+    sym (is-tab [] (map (text s) (take names.count names.parts)) names.count (λ i. text s (get_or names.parts i nowhere)) (length-map (take names.count names.parts) (text s) ∙ n)
+    (λ k lt. get_or-map (text s) (take names.count names.parts) k nowhere ∙ ap (text s) (get_or-take names.count names.parts k nowhere lt)))
 
-module _ {s : List ℕ} {names : Names} {t : List ℕ} where
-  pub place_none : Placing s names t 0
-  place_none = record { within = omega arith; so_far = omega arith }
+place-mapped : (s t : List ℕ) (l : List Part) → position_or_len (is_name s t) l ≡ place_of (map (text s) l) t
+unfolding place_of
+place-mapped s t [] = refl
+place-mapped s t (p ∷ l) = rw (place-mapped s t l) (pick (same_bytes (text s p) t) (place_of (map (text s) l) t))
+  where
+    pick : (b : Bool) (n : ℕ) → cond (not b) (1 + n) 0 ≡ cond b 0 (suc n)
+    pick true n = refl
+    pick false n = omega arith
 
-  pub place_more : {i : ℕ} {same : Bool} → Placing s names t i → i < names.count → same ≡ same_bytes (text s (part_of names i)) t → same ≡ false → Placing s names t (i + 1)
-  unfolding place_of
-  place_more {i} M h b e = record {
-    within = omega arith;
-    so_far = M.so_far ∙ rw (place_left s names i h, ← b, e, add-one) (omega arith);
-  }
+-- what stands at a position of a list is there, and else nothing
+abbrev pub found_in : {A : Type 0} → ℕ → List A → Option ℕ
+found_in i l = cond (ltb i (length l)) (Some i) None
 
-  pub place_found : {i : ℕ} {same : Bool} → Placing s names t i → i < names.count → same ≡ same_bytes (text s (part_of names i)) t → same ≡ true → i ≡ place_of (texts s names) t
-  unfolding place_of
-  place_found {i} M h b e = sym (M.so_far ∙ rw (place_left s names i h, ← b, e) (omega arith))
+-- the first part that is the name
+pub member-listed : (s : List ℕ) (names : Names) (t : List ℕ) → names.count ≤ length names.parts
+    → found_in (position_or_len (is_name s t) (take names.count names.parts)) (take names.count names.parts) ≡ member_at (texts s names) t
+member-listed s names t h =
+    rw (place-mapped s t (take names.count names.parts), ← texts-listed s names h, length-take-le names.count names.parts h, count-texts s names) refl
 
-  pub place_all : {i : ℕ} → Placing s names t i → names.count ≤ i → i ≡ place_of (texts s names) t
-  unfolding place_of
-  place_all {i} M h = sym (M.so_far ∙ rw (drop_of_length-le (texts s names) {i = i} (omega (arith, count-texts s names))) (omega arith))
+-- a place that was found is the name's, below the count; where none was, the name's place isn't below it
+pub member-some : (l : List (List ℕ)) (t : List ℕ) (i : ℕ) → Some i ≡ member_at l t → (i ≡ place_of l t) × (i < length l)
+member-some l t i e = pick (ltb (place_of l t) (length l)) refl e
+  where
+    pick : (b : Bool) → ltb (place_of l t) (length l) ≡ b → ◌≡◌ {A = Option ℕ} (Some i) (cond b (Some (place_of l t)) None) → (i ≡ place_of l t) × (i < length l)
+    pick true h e = let q : i ≡ place_of l t = cc in (q, rw q (ltb-true (place_of l t) (length l) h))
+    pick false h e = absurd (let z : ◌≡◌ {A = ℕ} 0 1 = cc in omega arith)
 
--- ---- a test that the places below i have passed, as far as they are below n
+pub member-none : (l : List (List ℕ)) (t : List ℕ) → None ≡ member_at l t → ltb (place_of l t) (length l) ≡ false
+member-none l t e = pick (ltb (place_of l t) (length l)) refl e
+  where
+    pick : (b : Bool) → ltb (place_of l t) (length l) ≡ b → ◌≡◌ {A = Option ℕ} None (cond b (Some (place_of l t)) None) → b ≡ false
+    pick true h e = absurd (let z : ◌≡◌ {A = ℕ} 0 1 = cc in omega arith)
+    pick false h e = refl
 
-pub record Passed (p : ℕ → Bool) (n i : ℕ) : Type 0 where
-  pub each : (j : ℕ) → j < i → j < n → p j ≡ true
+-- ---- the bytes of an operation
 
-module _ {p : ℕ → Bool} {n : ℕ} where
-  pub passed_none : Passed p n 0
-  passed_none = record { each = λ j lt. absurd (not-suc-le-zero lt) }
-
-  pub passed_more : {i : ℕ} → Passed p n i → (i < n → p i ≡ true) → Passed p n (i + 1)
-  passed_more {i} M h = record {
-    each = λ j lt g. ⊎_elim (λ a. M.each j a g) (λ (b : i ≤ j). let e : i ≡ j = omega arith in rw e at h g) (split j i);
-  }
-
-  pub passed_all : {i : ℕ} → Passed p n i → n ≤ i → all n p ≡ true
-  passed_all M h = all-each n p (λ j lt. M.each j (omega arith) lt)
+-- as many of them as there are, and 0 behind them
+pub bytes_kept : (t r : List ℕ) (n : ℕ) → n ≡ min (length t) 32 → r ≡ take n t → r ++ drop n (replicate 32 0) ≡ tab 32 (at t)
+bytes_kept t r n e f =
+    let m : length r ≡ n = rw f (length-take-le n t (omega arith)) in
+    is-tab 0 (r ++ drop n (replicate 32 0)) 32 (at t)
+    (omega (arith, length-append r (drop n (replicate 32 0)), length-drop n (replicate {A = ℕ} 32 0), length-replicate {A = ℕ} 32 0))
+    (λ k lt. ⊎_elim
+    (λ (a : k < n). get_or-append r (drop n (replicate 32 0)) 0 k (omega arith) ∙ rw f (get_or-take n t k 0 a))
+    (λ (b : n ≤ k).
+    get_or-append_right r (drop n (replicate 32 0)) k 0 (omega arith)
+    ∙ (get_or-drop n (replicate 32 0) (k - length r) 0
+    ∙ (get_or-replicate {A = ℕ} 32 (n + (k - length r)) 0 0 (omega arith) ∙ sym (get_or-eq_default t 0 {n = k} (omega arith)))))
+    (split k n))
 
 -- ---- the row of a list
 
--- a listed name is a member's; our place of it, 0 behind the list
+-- a listed name is a member's; our place of it
 abbrev is_member : List (List ℕ) → List (List ℕ) → ℕ → Bool
 is_member names listed p = ltb (place_of names (get_or listed p [])) (length names)
 
 abbrev place_at : List (List ℕ) → List (List ℕ) → ℕ → ℕ
-place_at names listed p = cond (ltb p (length listed)) (place_of names (get_or listed p [])) 0
+place_at names listed p = place_of names (get_or listed p [])
 
 -- the first p names are members, and their places are made
 pub record Translating (list : List ℕ) (names : Names) (s : List ℕ) (listed : Names) (places : List ℕ) (p : ℕ) : Type 0 where
-  pub made : Making 0 (place_at (texts list names) (texts s listed)) (replicate 16 0) places 16 p
-  pub members : Passed (is_member (texts list names) (texts s listed)) listed.count p
+  pub made : Making 0 (place_at (texts list names) (texts s listed)) (replicate 16 0) places listed.count p
+  pub members : Passing (is_member (texts list names) (texts s listed)) listed.count p
 
 module _ {list : List ℕ} {names : Names} {s : List ℕ} {listed : Names} where
-  pub translate_none : Translating list names s listed (replicate 16 0) 0
-  translate_none = record { made = make_none (omega arith); members = passed_none }
+  pub translate_none : listed.count ≤ 16 → Translating list names s listed (replicate 16 0) 0
+  translate_none few = record { made = make_none (omega arith); members = pass_none }
 
-  pub translate_more : {places : List ℕ} {p place : ℕ} → Translating list names s listed places p → p < 16 → p < listed.count
-      → place ≡ place_of (texts list names) (text s (part_of listed p)) → place < names.count → Translating list names s listed (set places p place) (p + 1)
-  translate_more {places} {p} {place} M h lt e m = record {
-    made = rw is (make_more M.made h);
-    members = passed_more M.members (λ g. lt-ltb (place_of (texts list names) (get_or (texts s listed) p [])) (length (texts list names)) (rw (texts-at s listed p lt, ← e, count-texts list names) m));
-  }
-    where
-      is : place ≡ place_at (texts list names) (texts s listed) p
-      is = rw (count-texts s listed, lt-ltb p listed.count lt, texts-at s listed p lt) e
-
-  pub translate_skip : {places : List ℕ} {p : ℕ} → Translating list names s listed places p → p < 16 → listed.count ≤ p → Translating list names s listed places (p + 1)
-  translate_skip {places} {p} M h le = record {
-    made = make_skip M.made h (rw (count-texts s listed, le-ltb p listed.count le) (sym (get_or-replicate 16 p 0 0 h)));
-    members = passed_more M.members (λ g. absurd (omega arith));
-  }
+  pub translate_more : {places : List ℕ} {p place : ℕ} → Translating list names s listed places p → p < listed.count
+      → Some place ≡ member_at (texts list names) (text s (part_of listed p)) → Translating list names s listed (set places p place) (p + 1)
+  translate_more {places} {p} {place} M lt e =
+      let f = rw (← texts-at s listed p lt) at (member-some (texts list names) (text s (part_of listed p)) place e) in
+      record {
+        made = rw f.0 (make_more M.made lt);
+        members = pass_more M.members lt (lt-ltb (place_at (texts list names) (texts s listed) p) (length (texts list names)) (rw f.0 at f.1));
+      }
 
 module _ (list : List ℕ) (names : Names) (s : List ℕ) (listed : Names) where
   -- a name that is no member's
-  pub translate_fails : (p place : ℕ) → p < listed.count → place ≡ place_of (texts list names) (text s (part_of listed p)) → names.count ≤ place
-      → translation_of (texts list names) (texts s listed) ≡ refused (no 7)
+  pub translate_fails : (p : ℕ) → p < listed.count → None ≡ member_at (texts list names) (text s (part_of listed p))
+      → translation_of (texts list names) (texts s listed) ≡ Err (no 7)
   unfolding translation_of
-  translate_fails p place lt e m =
-      rw (all_fails (length (texts s listed)) p (is_member (texts list names) (texts s listed)) (omega (arith, count-texts s listed))
-      (le-ltb (place_of (texts list names) (get_or (texts s listed) p [])) (length (texts list names)) (rw (texts-at s listed p lt, ← e, count-texts list names) m))) refl
+  translate_fails p lt e =
+      let f = member-none (texts list names) (text s (part_of listed p)) e in
+      rw (all_fails (length (texts s listed)) p (is_member (texts list names) (texts s listed)) (omega (arith, count-texts s listed)) (rw (texts-at s listed p lt) f)) refl
 
-  pub translate_all : (places : List ℕ) (p : ℕ) → Translating list names s listed places p → 16 ≤ p → listed.count ≤ 16
-      → translation_of (texts list names) (texts s listed) ≡ whole (record { count = listed.count; places = places })
+  pub translate_all : (places : List ℕ) (p : ℕ) → Translating list names s listed places p → listed.count ≤ p → listed.count ≤ 16
+      → Ok (record { count = listed.count; places = places }) ≡ translation_of (texts list names) (texts s listed)
   unfolding translation_of
   translate_all places p M h few =
-      rw (← make_tab M.made h refl, count-texts s listed, passed_all M.members (omega arith)) refl
+      rw (count-texts s listed, pass_all M.members h) (λ i. Ok (record { count = listed.count; places = whole i }))
+    where
+      f : ℕ → ℕ
+      f = place_at (texts list names) (texts s listed)
+
+      whole : places ≡ tab 16 (λ p. cond (ltb p listed.count) (f p) 0)
+      whole =
+          make_all M.made h
+          ∙ is-tab 0 (over 0 listed.count f (replicate 16 0)) 16 (λ p. cond (ltb p listed.count) (f p) 0) (length_over 0 listed.count f (replicate 16 0))
+          (λ k lt. over-at 0 listed.count f (replicate 16 0) k lt ∙ rw (get_or-replicate {A = ℕ} 16 k 0 0 lt) refl)
 
 -- ---- a row that goes on from the known one
 
-module _ (known row : Translation) where
-  pub continues-short : row.count < known.count → false ≡ continues known row
-  unfolding continues
-  continues-short h = rw (lt-leb known.count row.count h) refl
+-- a test that answers whether each place of the known row is the same
+pub continues_told : (r : Bool) (known row : Translation) → known.count ≤ 16 → known.count ≤ row.count
+    → IsTrue r ↔ ((j : ℕ) → j < known.count → at known.places j ≡ at row.places j) → r ≡ continues known row
+unfolding continues
+continues_told r known row few le h =
+    rw (le-leb known.count row.count le)
+    (all_told r known.count (λ p. eqb (at known.places p) (at row.places p)) (λ t j lt. eq-eqb (at known.places j) (at row.places j) (h.0 t j lt))
+    (λ f. h.1 (λ j lt. eqb-true (at known.places j) (at row.places j) (f j lt))))
 
-  pub continues-not : (p : ℕ) → known.count ≤ row.count → p < known.count → (at known.places p ≡ at row.places p → ⊥) → false ≡ continues known row
-  unfolding continues
-  continues-not p le h n =
-      rw (
-        le-leb known.count row.count le,
-        all_fails known.count p (λ p. eqb (at known.places p) (at row.places p)) h (ne_eqb (at known.places p) (at row.places p) n),
-      ) refl
-
-  pub continues-all : (p : ℕ) → known.count ≤ row.count → Passed (λ p. eqb (at known.places p) (at row.places p)) known.count p → known.count ≤ p
-      → true ≡ continues known row
-  unfolding continues
-  continues-all p le M h = rw (le-leb known.count row.count le, passed_all M h) refl
+pub continues-short : (known row : Translation) → leb known.count row.count ≡ false → false ≡ continues known row
+unfolding continues
+continues-short known row h = rw h refl
 
 -- ---- entries at our places
 
--- those of the first p names, as far as they are listed
+-- those of the first p names
 pub record Moving (row : Translation) (v r : List ℕ) (p : ℕ) : Type 0 where
-  pub so_far : r ≡ our_entries (min p row.count) row v
+  pub within : p ≤ row.count
+  pub so_far : r ≡ our_entries p row v
 
 module _ {row : Translation} {v r : List ℕ} where
   pub move_none : r ≡ zero_entries → Moving row v r 0
   unfolding our_entries
-  move_none e = record { so_far = let z : min 0 row.count ≡ 0 = omega arith in rw z e }
+  move_none e = record { within = omega arith; so_far = e }
 
   pub move_more : {p place : ℕ} {q : List ℕ} → Moving row v r p → p < row.count → place ≡ our_place row p → q ≡ set r place (at v p) → Moving row v q (p + 1)
   unfolding our_entries
-  move_more {p} {place} {q} M h e w = record {
-    so_far =
-        let a : min p row.count ≡ p = omega arith in
-        let b : min (p + 1) row.count ≡ suc p = omega arith in
-        rw (b, w, e, M.so_far, a) refl;
-  }
-
-  pub move_skip : {p : ℕ} → Moving row v r p → row.count ≤ p → Moving row v r (p + 1)
-  move_skip {p} M h = record {
-    so_far =
-        let a : min (p + 1) row.count ≡ min p row.count = omega arith in
-        rw a M.so_far;
-  }
+  move_more {p} {place} {q} M h e w = record { within = omega arith; so_far = rw (add-one, w, e, M.so_far) refl }
 
   pub move_all : {p : ℕ} → Moving row v r p → row.count ≤ p → r ≡ our_entries row.count row v
-  move_all {p} M h = let a : min p row.count ≡ row.count = omega arith in M.so_far ∙ rw a refl
-
--- ---- the answer as a struct
-
--- what is said of a list is refused, or it is a row
-pub told_refused : {t : Translated} (w : Whole Translation) (k : Refusal) → t ≡ translated w → t.outcome ≡ outcome.Refused k → w ≡ refused k
-told_refused w k e o = go w (sym (ap (λ (t : Translated). t.outcome) e) ∙ o)
-  where
-    go : (w : Whole Translation) → (translated w).outcome ≡ outcome.Refused k → w ≡ refused k
-    go (whole row) o = absurd (let z : ◌≡◌ {A = ℕ} 0 1 = cc in omega arith)
-    go (refused j) o = cc
-
-pub told_whole : {t : Translated} (w : Whole Translation) → t ≡ translated w → t.outcome ≡ outcome.Done → w ≡ whole t.row
-told_whole {t} w e o = go w (sym (ap (λ (t : Translated). t.outcome) e) ∙ o) (ap (λ (t : Translated). t.row) e)
-  where
-    go : (w : Whole Translation) → (translated w).outcome ≡ outcome.Done → t.row ≡ (translated w).row → w ≡ whole t.row
-    go (whole row) o q = ap whole (sym q)
-    go (refused j) o q = absurd (let z : ◌≡◌ {A = ℕ} 0 1 = cc in omega arith)
-
--- ---- a list that is admitted
-
--- a list that is translated: our place of its sender, and whether its row goes on from the known one
-pub record Asked (names : List (List ℕ)) (known : List Translation) (listed : List (List ℕ)) (sender : ℕ) (t : Translated) (place : ℕ) (goes : Bool) : Type 0 where
-  pub row : translation_of names listed ≡ whole t.row
-  pub sent : place ≡ our_place t.row sender
-  pub on : goes ≡ continues (get_or known place no_translation) t.row
-
-pub asked : (known : List Translation) {names listed : List (List ℕ)} {sender place : ℕ} {t : Translated} {goes : Bool} {before : Translation}
-    → t ≡ translated (translation_of names listed) → t.outcome ≡ outcome.Done → place ≡ our_place t.row sender
-    → before ≡ get_or known place no_translation → (before.count ≤ 16 → goes ≡ continues before t.row) → ((i : ℕ) → (get_or known i no_translation).count ≤ 16)
-    → Asked names known listed sender t place goes
-asked known {names} {listed} {sender} {place} e o p k g few = record {
-  row = told_whole (translation_of names listed) e o;
-  sent = p;
-  on = rw (← k) (g (rw k (few place)));
-}
-
-module _ (names : List (List ℕ)) (known : List Translation) (own : ℕ) (listed : List (List ℕ)) (sender : ℕ) where
-  pub admit_refused : {t r : Translated} {k : Refusal} → t ≡ translated (translation_of names listed) → t.outcome ≡ outcome.Refused k → r ≡ translated (refused k)
-      → r ≡ translated (admitted_by names known own listed sender)
-  admit_refused {t} {r} {k} e o q = rw (told_refused (translation_of names listed) k e o) q
-
-module _ {names : List (List ℕ)} {known : List Translation} {listed : List (List ℕ)} {sender : ℕ} {t : Translated} {place : ℕ} {goes : Bool} where
-  pub admit_differs : (own : ℕ) → Asked names known listed sender t place goes → not goes ≡ true
-      → translated (refused (no 8)) ≡ translated (admitted_by names known own listed sender)
-  admit_differs own A d = rw (A.row, ← A.sent, ← A.on, not-true goes d) refl
-
-  pub admit_ours : (own : ℕ) → Asked names known listed sender t place goes → not goes ≡ false → place ≡ own
-      → translated (refused (no 10)) ≡ translated (admitted_by names known own listed sender)
-  admit_ours own A d e = rw (A.row, ← A.sent, ← A.on, not-false goes d, eq-eqb place own e) refl
-
-  pub admit_done : (own : ℕ) → Asked names known listed sender t place goes → not goes ≡ false → (place ≡ own → ⊥) → t.outcome ≡ outcome.Done
-      → t ≡ translated (admitted_by names known own listed sender)
-  admit_done own A d n o = rw (A.row, ← A.sent, ← A.on, not-false goes d, ne_eqb place own n) (λ i. record { outcome = o i; row = t.row })
+  move_all {p} M h = let a : p ≡ row.count = omega (arith, M.within) in M.so_far ∙ rw a refl

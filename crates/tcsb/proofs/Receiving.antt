@@ -15,8 +15,8 @@ use Rattle.lists.specs.Lists.{at}
 use Rattle.lists.proofs.Joined.{Each, each_none, each_more}
 use Rattle.clock.specs.Entries.{at_most}
 use Rattle.clock.specs.Matrix.{cell}
-use Rattle.telegram.specs.Fields.{Got, got, bad, many}
-use Rattle.telegram.specs.Reading.{Whole, whole, refused, body, exception, texts, event, batch, since}
+use Rattle.telegram.specs.Fields.{many}
+use Rattle.telegram.specs.Reading.{body, exception, texts, event, batch, since}
 use Rattle.telegram.specs.Meaning.{found}
 use Rattle.telegram.specs.declared.list.Names.{Names}
 use Rattle.telegram.specs.declared.body.Body.{Body}
@@ -34,6 +34,8 @@ use Rattle.tcsb.proofs.Valid.{members_range}
 use Rattle.tcsb.proofs.Heard.{BodyHeard, ListHeard, bodies_heard, event_heard, batch_heard, since_heard}
 use Rattle.tcsb.proofs.Admitted.{AdmittedRow, admitted-is}
 use Rattle.tcsb.proofs.Translated.{set_keeps, or_neither, event-good}
+use Rattle.std.specs.Prelude.{Result, Ok, Err}
+use Rattle.leb128.specs.Leb128.{Read, got}
 
 -- ---- events put in one by one
 
@@ -160,12 +162,12 @@ stored-well st es w h a b =
     })
 
 -- what is recorded has the same members
-pub recorded-well : (st : State) (es : List Event) (after : State) → WellFormed st → Each (Arrived st) es → recorded st es ≡ whole after
+pub recorded-well : (st : State) (es : List Event) (after : State) → WellFormed st → Each (Arrived st) es → recorded st es ≡ Ok after
     → WellFormed after × (members after ≡ members st)
 unfolding recorded
 recorded-well st es after w h e =
     let i = if_whole (leb (length (insert_all (taken_of st es) st.inbox)) 64) _ (no 12) e in
-    let j = if_whole (leb (length (insert_all (taken_of st es) st.outbox)) 256) (whole (stored st es)) (no 13) i.1 in
+    let j = if_whole (leb (length (insert_all (taken_of st es) st.outbox)) 256) (Ok (stored st es)) (no 13) i.1 in
     rw (← whole_same j.1) (
       stored-well st es w h (leb-true (length (insert_all (taken_of st es) st.inbox)) 64 i.0)
           (leb-true (length (insert_all (taken_of st es) st.outbox)) 256 j.0),
@@ -175,24 +177,24 @@ recorded-well st es after w h e =
 -- ---- calls, step by step
 
 module _ {B : Type 0} {st : State} (w : WellFormed st) where
-  first-well : {A : Type 0} (g : Whole A) (f : A → Call B) → ((a : A) → g ≡ whole a → WellFormed (state_after st (f a))) → WellFormed (state_after st (first g f))
-  first-well (whole a) f h = h a refl
-  first-well (refused k) f h = w
+  first-well : {A : Type 0} (g : Result A Refusal) (f : A → Call B) → ((a : A) → g ≡ Ok a → WellFormed (state_after st (f a))) → WellFormed (state_after st (first g f))
+  first-well (Ok a) f h = h a refl
+  first-well (Err k) f h = w
 
   unless-well : (t : Bool) (k : Refusal) (c : Call B) → (t ≡ false → WellFormed (state_after st c)) → WellFormed (state_after st (cond t (not_done k) c))
   unless-well true k c h = w
   unless-well false k c h = h refl
 
   -- several things that are read
-  found-well : {A : Type 0} (g : Got A) (f : A → Call B) → ((a : A) (next : ℕ) → g ≡ got a next → WellFormed (state_after st (f a)))
+  found-well : {A : Type 0} (g : Read A) (f : A → Call B) → ((a : A) (next : ℕ) → g ≡ got a next → WellFormed (state_after st (f a)))
       → WellFormed (state_after st (first (found g) f))
-  found-well (got a next) f h = h a next refl
-  found-well (bad k) f h = w
+  found-well (Ok g) f h = h g.value g.next refl
+  found-well (Err k) f h = w
 
 -- ---- rows of what is read
 
 -- the row of a list that is read and admitted
-pub heard_row : {st : State} {s : List ℕ} {l : Names} {sender : ℕ} (row : Translation) → WellFormed st → ListHeard s l sender → admitted st (texts s l) sender ≡ whole row
+pub heard_row : {st : State} {s : List ℕ} {l : Names} {sender : ℕ} (row : Translation) → WellFormed st → ListHeard s l sender → admitted st (texts s l) sender ≡ Ok row
     → AdmittedRow (members st) (own st) l.count sender row
 heard_row {st} {s} {l} {sender} row w h e =
     let c = count-texts s l in

@@ -120,7 +120,8 @@ sent-well st operation w =
     cond_ind P (leb (length operation) 32)
     (λ h. cond_ind P (ltb (at (own_row st) (own st)) last_number)
     (λ f. cond_ind P (leb (length (insert_sorted (sent_event st operation) st.outbox)) 256)
-    (λ r. after-sent w (ltb-true (at (own_row st) (own st)) last_number f) operation (leb-true (length operation) 32 h) (leb-true (length (insert_sorted (sent_event st operation) st.outbox)) 256 r))
+    (λ r. after-sent w (ltb-true (at (own_row st) (own st)) last_number f) operation (leb-true (length operation) 32 h)
+    (leb-true (length (insert_sorted (sent_event st operation) st.outbox)) 256 r))
     (λ _. w)) (λ _. w)) (λ _. w)
   where
     P : Call (List ℕ) → Type 0

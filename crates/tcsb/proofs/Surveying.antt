@@ -1,36 +1,33 @@
 -- What the walk over a batch's bodies finds, body by body. Assumes nothing.
 use mathlib.Core.Path.{◌≡◌, refl, sym, ap, ◌∙◌}
-use mathlib.Core.Bool.{Bool, true, false, cond, ◌&&◌, ◌||◌, and-false, or-false}
+use mathlib.Core.Bool.{Bool, true, false, cond, ◌&&◌, ◌||◌, or-false}
 use mathlib.Core.List.{List, [], ◌∷◌, ◌++◌, map, append-nil}
-use mathlib.Core.Logic.{⊎_elim}
 use Prim.Native.Nat.{ℕ, zero, suc, ◌+◌, ◌≤◌, ◌<◌}
 use native.Mathlib.Numerals.{add-one}
 use native.Mathlib.Omega.{arith}
-use lib.ListN.{length}
+use lib.ListN.{length, get_or, take}
 use lib.Seq.{get_or-set_same, get_or-set_other}
 use lib.Dec.{eqb}
-use borrow.Author.Tests.{eq-eqb, ne_eqb}
-use Rattle.lists.specs.Lists.{at, any}
-use Rattle.lists.proofs.Cases.{split}
-use Rattle.lists.proofs.Laws.{any_found}
+use Rattle.std.specs.List.{list_any}
+use Rattle.std.proofs.lemmas.List.Folds.{list_any_more}
+use Rattle.lists.specs.Lists.{any}
 use Rattle.refusal.specs.declared.Refusal.{Refusal}
-use Rattle.refusal.specs.declared.Outcome.TheVariants as outcome
-use Rattle.telegram.specs.Fields.{got, many}
-use Rattle.telegram.specs.Reading.{body, body_at, body_read}
+use Rattle.clock.specs.declared.id.EventId.{EventId}
+use Rattle.clock.specs.Version.{no_id, same_id}
+use Rattle.leb128.specs.declared.Got.{Got}
+use Rattle.telegram.specs.Fields.{many}
+use Rattle.telegram.specs.Reading.{body, body_at}
 use Rattle.telegram.specs.declared.body.Body.{Body}
-use Rattle.telegram.specs.declared.body.BodyRead.{BodyRead}
 use Rattle.store.specs.declared.event.Event.{Event}
-use Rattle.store.specs.declared.order.Found.{Found}
-use Rattle.store.specs.declared.order.Found.TheVariants.{At, Gap}
 use Rattle.store.specs.Orders.{Sorted, find_from, events, keep}
 use Rattle.tcsb.specs.declared.internalizer.Translation.{Translation}
 use Rattle.tcsb.specs.declared.tcsb.Tcsb.{Tcsb}
 use Rattle.tcsb.specs.declared.receive.Verdict.{Verdict}
 use Rattle.tcsb.specs.declared.receive.Verdict.TheVariants.{Taken, Duplicate, Stale}
+use Rattle.tcsb.specs.contracts.receive.VerdictPartialEq.TheImpl as derived
 use Rattle.tcsb.specs.declared.batch.Tally.{Tally}
 use Rattle.tcsb.specs.declared.batch.Ids.{Ids}
 use Rattle.tcsb.specs.declared.batch.Survey.{Survey}
-use Rattle.tcsb.specs.declared.batch.Surveyed.{Surveyed}
 use Rattle.tcsb.specs.Internalizer.{our_place, event_of}
 use Rattle.tcsb.specs.Replica.{State, misnumbered, verdict_by, verdict_of, is_duplicate, is_stale, is_taken, taken_of, same_verdict, insert_all, count_of, tally_of, some_own, some_misnumbered}
 use Rattle.tcsb.specs.Tcsb.{view}
@@ -39,19 +36,18 @@ use Rattle.tcsb.specs.Survey.{has_id, with_id, has_in, raised_tally, no_survey, 
 use Rattle.store.proofs.Pruning.{keep_append}
 use Rattle.tcsb.proofs.Inserting.{id_is, is_id, has-append, one_again, one_more_lem, keep_yes, keep-no, count-append, own-append, misnumbered-append, map-append, insert_all-none}
 use Rattle.tcsb.proofs.Walked.{Reached, reach_none, reach_more, reach_bad, reach_all, body-done, body_refused}
+use Rattle.std.specs.Prelude.{Result, Ok, Err}
+use Rattle.leb128.specs.Leb128.{Read, got}
 
 -- ---- ids
 
--- some place below a count, and below a smaller one
-any-less : (m n : ℕ) (p : ℕ → Bool) → m ≤ n → any n p ≡ false → any m p ≡ false
+-- some of the first n things of a list
+any-taken : {A : Type 0} (d : A) (p : A → Bool) (l : List A) (n : ℕ) → n ≤ length l → list_any p (take n l) ≡ any n (λ k. p (get_or l k d))
 unfolding any
-any-less m zero p h e = let q : m ≡ 0 = omega arith in rw q refl
-any-less m (suc n) p h e =
-    ⊎_elim (λ (l : m < suc n). any-less m n p (omega arith) (go (any n p) (p n) e)) (λ (l : suc n ≤ m). let q : m ≡ suc n = omega arith in rw q e) (split m (suc n))
-  where
-    go : (a b : Bool) → (a || b) ≡ false → a ≡ false
-    go true b e = absurd (let z : ◌≡◌ {A = ℕ} 0 1 = cc in omega arith)
-    go false b e = refl
+any-taken d p l zero h = refl
+any-taken d p l (suc n) h =
+    let m : n < length l = omega arith in
+    rw (← add-one n) (list_any_more p l n d m) ∙ ap (λ (b : Bool). b || p (get_or l n d)) (any-taken d p l n (omega arith))
 
 -- tests that agree below n
 any_same : (n : ℕ) (p q : ℕ → Bool) → ((j : ℕ) → j < n → p j ≡ q j) → any n p ≡ any n q
@@ -59,69 +55,31 @@ unfolding any
 any_same zero p q h = refl
 any_same (suc n) p q h = rw (any_same n p q (λ j lt. h j (omega arith)), h n (omega arith)) refl
 
--- the id at a place
-abbrev pub id_at : Ids → ℕ → ℕ → ℕ → Bool
-id_at ids o n k = eqb (at ids.origins k) o && eqb (at ids.numbers k) n
+abbrev pub id_of : ℕ → ℕ → EventId
+id_of o n = record { idx = record { 0 = o }; seq = n }
 
--- none of the first k ids is the one looked for
-pub record Seeking (ids : Ids) (o n k : ℕ) : Type 0 where
-  pub none : any k (id_at ids o n) ≡ false
-
-module _ {ids : Ids} {o n : ℕ} where
-  pub seek_none : Seeking ids o n 0
-  unfolding any
-  seek_none = record { none = refl }
-
-  pub seek_more : {k : ℕ} → Seeking ids o n k → id_at ids o n k ≡ false → Seeking ids o n (k + 1)
-  unfolding any
-  seek_more {k} s h = record { none = rw (add-one, s.none, h) refl }
-
-  pub seek_all : {k : ℕ} → Seeking ids o n k → ids.count ≤ k → false ≡ has_id ids o n
-  seek_all {k} s h = sym (any-less ids.count k (id_at ids o n) h s.none)
-
-module _ (ids : Ids) (o n : ℕ) where
-  pub seek_found : (k : ℕ) → k < ids.count → at ids.origins k ≡ o → at ids.numbers k ≡ n → true ≡ has_id ids o n
-  seek_found k lt h g = sym (any_found ids.count k (id_at ids o n) lt (rw (eq-eqb (at ids.origins k) o h, eq-eqb (at ids.numbers k) n g) refl))
-
-  pub other-origin : (k : ℕ) → (at ids.origins k ≡ o → ⊥) → id_at ids o n k ≡ false
-  other-origin k h = rw (ne_eqb (at ids.origins k) o h) refl
-
-  pub other-number : (k : ℕ) → (at ids.numbers k ≡ n → ⊥) → id_at ids o n k ≡ false
-  other-number k h = rw (ne_eqb (at ids.numbers k) n h) (and-false (eqb (at ids.origins k) o))
+-- a test of each id that is held
+pub has-taken : (ids : Ids) (o n : ℕ) → Long ids → ids.count ≤ 256 → list_any (λ x. same_id x (id_of o n)) (take ids.count ids.at) ≡ has_id ids o n
+has-taken ids o n l h = any-taken no_id (λ x. same_id x (id_of o n)) ids.at ids.count (omega (arith, l.places))
 
 -- one id more
-pub with_id_lem : (ids : Ids) (a b o n : ℕ) → ids.count < length ids.origins → ids.count < length ids.numbers
-    → has_id (with_id ids a b) o n ≡ (has_id ids o n || (eqb a o && eqb b n))
+pub with_id_lem : (ids : Ids) (a b o n : ℕ) → ids.count < length ids.at → has_id (with_id ids a b) o n ≡ (has_id ids o n || (eqb a o && eqb b n))
 unfolding any
-with_id_lem ids a b o n f g =
+with_id_lem ids a b o n f =
     let k = ids.count in
+    let id_at : Ids → ℕ → Bool = λ ids k. same_id (get_or ids.at k no_id) (id_of o n) in
     rw (
       add-one,
-      any_same k (id_at (with_id ids a b) o n) (id_at ids o n)
-          (λ j lt. rw (get_or-set_other ids.origins k j a 0 (λ q. omega arith), get_or-set_other ids.numbers k j b 0 (λ q. omega arith)) refl),
-      get_or-set_same ids.origins k a 0 f,
-      get_or-set_same ids.numbers k b 0 g,
+      any_same k (id_at (with_id ids a b)) (id_at ids) (λ j lt. rw (get_or-set_other ids.at k j (id_of a b) no_id (λ q. omega arith)) refl),
+      get_or-set_same ids.at k (id_of a b) no_id f,
     )
     refl
 
 -- ---- an id noted
 
-pub new_small : (f : Found) → new_to f ≤ 1
-new_small (At i) = omega arith
-new_small (Gap i) = omega arith
-
-pub new_at_most : {r : ℕ} (o n : ℕ) (l : List Event) → r ≡ new_to (find_from o n 0 l) → r ≤ 1
-new_at_most o n l e = rw e (new_small (find_from o n 0 l))
-
-module _ (p q : List ℕ) (t : Tcsb) (v : Survey) (e : Event) where
-  pub noted_before : {r : Bool} → Few 255 v → (v.ids.count ≤ 256 → r ≡ has_id v.ids e.origin.0 e.number) → r ≡ true → v ≡ noted_by p q t v e
-  noted_before f h g = rw (sym (h (omega (arith, f.ids))) ∙ g) refl
-
-  pub noted_now : {r : Bool} {ids : Ids} {m k : ℕ} → Few 255 v → (v.ids.count ≤ 256 → r ≡ has_id v.ids e.origin.0 e.number) → r ≡ false
-      → ids ≡ with_id v.ids e.origin.0 e.number
-      → m ≡ new_to (find_from e.origin.0 e.number 0 (events p t.inbox.order)) → k ≡ new_to (find_from e.origin.0 e.number 0 (events q t.outbox.order))
-      → record { own = v.own; misnumbered = v.misnumbered; tally = v.tally; ids = ids; waiting = v.waiting + m; kept = v.kept + k } ≡ noted_by p q t v e
-  noted_now f h g i a b = rw (sym (h (omega (arith, f.ids))) ∙ g, i, a, b) refl
+new_small : (f : Result ℕ ℕ) → new_to f ≤ 1
+new_small (Ok i) = omega arith
+new_small (Err i) = omega arith
 
 -- ---- one body more: no count grows by more than one
 
@@ -146,7 +104,7 @@ few-tally n t Stale a b c = (omega arith, (omega arith, omega arith))
 abbrev Fewer : ℕ → Survey → Type 0
 Fewer n v = (v.ids.count ≤ n) × ((v.waiting ≤ n) × (v.kept ≤ n))
 
-few_noted : (p q : List ℕ) (t : Tcsb) (v : Survey) (e : Event) (n : ℕ) (w : Verdict) → Few n v → Fewer (n + 1) (note_for p q t v e w)
+few_noted : (p q : List ℕ) (t : Tcsb) (v : Survey) (e : Event) (n : ℕ) (w : Verdict) → Fewer n v → Fewer (n + 1) (note_for p q t v e w)
 few_noted p q t v e n Taken f =
     go (has_id v.ids e.origin.0 e.number)
     (new_small (find_from e.origin.0 e.number 0 (events p t.inbox.order))) (new_small (find_from e.origin.0 e.number 0 (events q t.outbox.order)))
@@ -160,10 +118,25 @@ few_noted p q t v e n Taken f =
           waiting = v.waiting + new_to (find_from e.origin.0 e.number 0 (events p t.inbox.order));
           kept = v.kept + new_to (find_from e.origin.0 e.number 0 (events q t.outbox.order));
         }))
-    go true h g = (omega (arith, f.ids), (omega (arith, f.waiting), omega (arith, f.kept)))
-    go false h g = (omega (arith, f.ids), (omega (arith, f.waiting), omega (arith, f.kept)))
-few_noted p q t v e n Duplicate f = (omega (arith, f.ids), (omega (arith, f.waiting), omega (arith, f.kept)))
-few_noted p q t v e n Stale f = (omega (arith, f.ids), (omega (arith, f.waiting), omega (arith, f.kept)))
+    go true h g = (omega (arith, f), (omega (arith, f), omega (arith, f)))
+    go false h g = (omega (arith, f), (omega (arith, f), omega (arith, f)))
+few_noted p q t v e n Duplicate f = (omega (arith, f), (omega (arith, f), omega (arith, f)))
+few_noted p q t v e n Stale f = (omega (arith, f), (omega (arith, f), omega (arith, f)))
+
+-- what is noted leaves all but ids and room
+record Rest (v r : Survey) : Type 0 where
+  pub own : r.own ≡ v.own
+  pub misnumbered : r.misnumbered ≡ v.misnumbered
+  pub tally : r.tally ≡ v.tally
+
+rest_if : (b : Bool) (v x : Survey) → Rest v x → Rest v (cond b v x)
+rest_if true v x r = record { own = refl; misnumbered = refl; tally = refl }
+rest_if false v x r = r
+
+rest_noted : (p q : List ℕ) (t : Tcsb) (v : Survey) (e : Event) (w : Verdict) → Rest v (note_for p q t v e w)
+rest_noted p q t v e Taken = rest_if (has_id v.ids e.origin.0 e.number) v _ (record { own = refl; misnumbered = refl; tally = refl })
+rest_noted p q t v e Duplicate = record { own = refl; misnumbered = refl; tally = refl }
+rest_noted p q t v e Stale = record { own = refl; misnumbered = refl; tally = refl }
 
 -- ---- one body more: what is counted
 
@@ -211,10 +184,10 @@ record Notes (es inbox outbox : List Event) (v : Survey) : Type 0 where
   pub kept : length outbox + v.kept ≡ length (insert_all es outbox)
 
 notes_more : (p q : List ℕ) (t : Tcsb) (v : Survey) (es : List Event) (e : Event) → Sorted (events p t.inbox.order) → Sorted (events q t.outbox.order)
-    → v.ids.count < length v.ids.origins → v.ids.count < length v.ids.numbers
+    → v.ids.count < length v.ids.at
     → Notes es (events p t.inbox.order) (events q t.outbox.order) v
     → Notes (es ++ (e ∷ [])) (events p t.inbox.order) (events q t.outbox.order) (noted_by p q t v e)
-notes_more p q t v es e sp sq f g h =
+notes_more p q t v es e sp sq f h =
     go (has_id v.ids e.origin.0 e.number) (h.ids e.origin.0 e.number)
   where
     go : (b : Bool) → b ≡ has_in e.origin.0 e.number es
@@ -232,7 +205,7 @@ notes_more p q t v es e sp sq f g h =
       kept = h.kept ∙ sym (one_again es (events q t.outbox.order) e sq (sym c));
     }
     go false c = record {
-      ids = λ o n. with_id_lem v.ids e.origin.0 e.number o n f g ∙ (ap (λ (b : Bool). b || id_is o n e) (h.ids o n) ∙ sym (has-append o n es e));
+      ids = λ o n. with_id_lem v.ids e.origin.0 e.number o n f ∙ (ap (λ (b : Bool). b || id_is o n e) (h.ids o n) ∙ sym (has-append o n es e));
       waiting = omega (arith, h.waiting, one_more_lem es (events p t.inbox.order) e sp (sym c));
       kept = omega (arith, h.kept, one_more_lem es (events q t.outbox.order) e sq (sym c));
     }
@@ -242,6 +215,12 @@ pub verdict_by_lem : (st : State) (e : Event) → verdict_by st.matrix st.fronti
 unfolding verdict_of is_duplicate is_stale
 verdict_by_lem st e = refl
 
+-- the derived test for the verdict that an event is to be taken
+pub is_taken_lem : (v : Verdict) → (derived.ghosts).eq v Taken ≡ is_taken v
+is_taken_lem Taken = refl
+is_taken_lem Duplicate = refl
+is_taken_lem Stale = refl
+
 -- ---- the step
 
 -- what is noted of an event by its verdict; whether an origin so far is ourselves, and whether an event so far is numbered wrong
@@ -249,15 +228,24 @@ pub record Noting (p q : List ℕ) (t : Tcsb) (v : Survey) (e : Event) (w : Verd
   pub is : r ≡ note_for p q t v e w
   pub long : LongFor v w
 
-pub record OwnSoFar (t : Tcsb) (row : Translation) (v : Survey) (b : Body) (r : Bool) : Type 0 where
-  pub is : r ≡ (v.own || eqb (our_place row b.place.0) t.matrix.origin.0)
+abbrev pub own_so_far : Tcsb → Translation → Survey → Body → Bool
+own_so_far t row v b = v.own || eqb (our_place row b.place.0) t.matrix.origin.0
 
-pub record WrongSoFar (v : Survey) (b : Body) (r : Bool) : Type 0 where
-  pub is : r ≡ (v.misnumbered || misnumbered b)
+abbrev pub wrong_so_far : Survey → Body → Bool
+wrong_so_far v b = v.misnumbered || misnumbered b
+
+-- the survey with both, and the tally with one verdict more
+abbrev pub counted_in : Survey → Bool → Bool → Tally → Survey
+counted_in v own wrong tally = record { own = own; misnumbered = wrong; tally = tally; ids = v.ids; waiting = v.waiting; kept = v.kept }
 
 module _ {p q : List ℕ} {t : Tcsb} {v : Survey} {e : Event} {r : Survey} where
-  pub noting_taken : {w : Verdict} {x : Survey} → w ≡ Taken → (x ≡ noted_by p q t v e) × Long v.ids → r ≡ x → Noting p q t v e w r
-  noting_taken c h g = rw c (record { is = g ∙ h.0; long = h.1 })
+  pub noting_taken : {w : Verdict} → is_taken w ≡ true → (r ≡ noted_by p q t v e) × Long v.ids → Noting p q t v e w r
+  noting_taken {w} c h = go w c
+    where
+      go : (w : Verdict) → is_taken w ≡ true → Noting p q t v e w r
+      go Taken c = record { is = h.0; long = h.1 }
+      go Duplicate c = absurd (let z : ◌≡◌ {A = ℕ} 0 1 = cc in omega arith)
+      go Stale c = absurd (let z : ◌≡◌ {A = ℕ} 0 1 = cc in omega arith)
 
   pub noting_none : {w : Verdict} → is_taken w ≡ false → r ≡ v → Noting p q t v e w r
   noting_none {w} c g = go w c
@@ -267,32 +255,18 @@ module _ {p q : List ℕ} {t : Tcsb} {v : Survey} {e : Event} {r : Survey} where
       go Duplicate c = record { is = g; long = tt }
       go Stale c = record { is = g; long = tt }
 
-pub own_before : {t : Tcsb} {row : Translation} {v : Survey} {b : Body} {r : Bool} → v.own ≡ true → r ≡ true → OwnSoFar t row v b r
-own_before h g = record { is = rw (h, g) refl }
-
-pub own_now : {t : Tcsb} {row : Translation} {v : Survey} {b : Body} {r : Bool} {place : ℕ} → v.own ≡ false → place ≡ our_place row b.place.0 → r ≡ eqb place t.matrix.origin.0
-    → OwnSoFar t row v b r
-own_now h e g = record { is = rw (h, ← e) g }
-
-pub wrong_before : {v : Survey} {b : Body} {r : Bool} → v.misnumbered ≡ true → r ≡ true → WrongSoFar v b r
-wrong_before h g = record { is = rw (h, g) refl }
-
-pub wrong_now : {v : Survey} {b : Body} {r x : Bool} → v.misnumbered ≡ false → x ≡ misnumbered b → r ≡ x → WrongSoFar v b r
-wrong_now h e g = record { is = rw (h, ← e) g }
-
 module _ {p q s : List ℕ} {t : Tcsb} {row : Translation} {v r : Survey} {b : Body} {e : Event} {verdict : Verdict} {ours wrong : Bool} {tally : Tally} where
   pub surveys_more : Few 255 v → (row.count ≤ 16 → e ≡ event_of row s b)
-      → verdict ≡ verdict_by t.matrix t.frontier e → tally ≡ raised_tally v.tally verdict → Noting p q t v e verdict r
-      → OwnSoFar t row v b ours → WrongSoFar v b wrong
-      → SurveysMore p q t row s v b (record { own = ours; misnumbered = wrong; tally = tally; ids = r.ids; waiting = r.waiting; kept = r.kept })
-  surveys_more few ee ev et noted eo ew = record {
+      → verdict ≡ verdict_by t.matrix t.frontier e → tally ≡ raised_tally v.tally verdict → ours ≡ own_so_far t row v b → wrong ≡ wrong_so_far v b
+      → Noting p q t (counted_in v ours wrong tally) e verdict r → SurveysMore p q t row s v b r
+  surveys_more few ee ev et eo ew noted = record {
     few = λ n f.
         let a = few-tally n v.tally verdict f.taken f.duplicate f.stale in
-        let c = few_noted p q t v e n verdict f in
+        let c = few_noted p q t (counted_in v ours wrong tally) e n verdict (f.ids, (f.waiting, f.kept)) in
         record {
-          taken = rw et a.0;
-          duplicate = rw et a.1.0;
-          stale = rw et a.1.1;
+          taken = rw tallied a.0;
+          duplicate = rw tallied a.1.0;
+          stale = rw tallied a.1.1;
           ids = rw noted.is c.0;
           waiting = rw noted.is c.1.0;
           kept = rw noted.is c.1.1;
@@ -304,25 +278,35 @@ module _ {p q s : List ℕ} {t : Tcsb} {row : Translation} {v r : Survey} {b : B
         let l : map (event_of row s) (bs ++ (b ∷ [])) ≡ es ++ (e ∷ []) = map-append (event_of row s) bs b ∙ ap (λ (x : Event). es ++ (x ∷ [])) (sym (ee h)) in
         let k = notes list es sp sq w (record { ids = g.ids; waiting = g.waiting; kept = g.kept }) in
         record {
-          own = eo.is ∙ (ap (λ (x : Bool). x || eqb (our_place row b.place.0) t.matrix.origin.0) g.own ∙ sym (own-append st row bs b));
-          misnumbered = ew.is ∙ (ap (λ (x : Bool). x || misnumbered b) g.misnumbered ∙ sym (misnumbered-append bs b));
-          tally = rw (et, l, g.tally, w) (tally-more st es e);
+          own =
+              ap (λ (x : Survey). x.own) noted.is
+              ∙ (rest.own ∙ (eo ∙ (ap (λ (x : Bool). x || eqb (our_place row b.place.0) t.matrix.origin.0) g.own ∙ sym (own-append st row bs b))));
+          misnumbered =
+              ap (λ (x : Survey). x.misnumbered) noted.is
+              ∙ (rest.misnumbered ∙ (ew ∙ (ap (λ (x : Bool). x || misnumbered b) g.misnumbered ∙ sym (misnumbered-append bs b))));
+          tally = tallied ∙ rw (l, g.tally, w) (tally-more st es e);
           ids = rw (l, noted.is) k.ids;
           waiting = rw (l, noted.is) k.waiting;
           kept = rw (l, noted.is) k.kept;
         };
   }
     where
+      rest : Rest (counted_in v ours wrong tally) (note_for p q t (counted_in v ours wrong tally) e verdict)
+      rest = rest_noted p q t (counted_in v ours wrong tally) e verdict
+
+      tallied : r.tally ≡ raised_tally v.tally verdict
+      tallied = ap (λ (x : Survey). x.tally) noted.is ∙ (rest.tally ∙ et)
+
       notes : (list : List ℕ) (es : List Event) → Sorted (events p t.inbox.order) → Sorted (events q t.outbox.order) → verdict ≡ verdict_of (view t list p q) e
-          → Notes (taken_of (view t list p q) es) (events p t.inbox.order) (events q t.outbox.order) v
-          → Notes (taken_of (view t list p q) (es ++ (e ∷ []))) (events p t.inbox.order) (events q t.outbox.order) (note_for p q t v e verdict)
+          → Notes (taken_of (view t list p q) es) (events p t.inbox.order) (events q t.outbox.order) (counted_in v ours wrong tally)
+          → Notes (taken_of (view t list p q) (es ++ (e ∷ []))) (events p t.inbox.order) (events q t.outbox.order) (note_for p q t (counted_in v ours wrong tally) e verdict)
       notes list es sp sq w k = go verdict (sym w) noted.long
         where
-          go : (x : Verdict) → verdict_of (view t list p q) e ≡ x → LongFor v x
-              → Notes (taken_of (view t list p q) (es ++ (e ∷ []))) (events p t.inbox.order) (events q t.outbox.order) (note_for p q t v e x)
+          go : (x : Verdict) → verdict_of (view t list p q) e ≡ x → LongFor (counted_in v ours wrong tally) x
+              → Notes (taken_of (view t list p q) (es ++ (e ∷ []))) (events p t.inbox.order) (events q t.outbox.order) (note_for p q t (counted_in v ours wrong tally) e x)
           go Taken c z =
               rw (taken_more (view t list p q) es e (ap is_taken c))
-              (notes_more p q t v (taken_of (view t list p q) es) e sp sq (omega (arith, few.ids, z.origins)) (omega (arith, few.ids, z.numbers)) k)
+              (notes_more p q t (counted_in v ours wrong tally) (taken_of (view t list p q) es) e sp sq (omega (arith, few.ids, z.places)) k)
           go Duplicate c z = rw (taken-same (view t list p q) es e (ap is_taken c)) k
           go Stale c z = rw (taken-same (view t list p q) es e (ap is_taken c)) k
 
@@ -362,25 +346,24 @@ module _ {p q s : List ℕ} {t : Tcsb} {row : Translation} {at names count : ℕ
     reached = λ list bs end h few sp sq m. reach_none m (rw e (surveys_none (view t list p q) row s));
   }
 
-  pub survey_more : {v v' : Survey} {next i : ℕ} {r : BodyRead} → SurveyedSo p q t row s at names count v next i → i < count → r ≡ body_read (body_at names s next)
-      → r.outcome ≡ outcome.Done → SurveysMore p q t row s v r.body v' → SurveyedSo p q t row s at names count v' r.next (i + 1)
-  survey_more {v} {v'} {next} {i} {r} S lt e o m = record {
+  pub survey_more : {v v' : Survey} {next i : ℕ} {r : Read Body} {g : Got Body} → SurveyedSo p q t row s at names count v next i → i < count → r ≡ body_at names s next
+      → r ≡ Ok g → SurveysMore p q t row s v g.value v' → SurveyedSo p q t row s at names count v' g.next (i + 1)
+  survey_more {v} {v'} {next} {i} {r} {g} S lt e o m = record {
     within = omega arith;
     few = m.few i S.few;
-    reached = λ list bs end h few sp sq g.
-        reach_more (λ l. Surveys (view t list p q) row s l v') r.body r.next (S.reached list bs end h few sp sq g) lt (body-done names s next few e o)
+    reached = λ list bs end h few sp sq k.
+        reach_more (λ l. Surveys (view t list p q) row s l v') g.value g.next (S.reached list bs end h few sp sq k) lt (body-done names s next few e o)
         (λ l z x. m.more list l h sp sq x);
   }
 
-  pub survey_refused : {v : Survey} {next i : ℕ} {r : BodyRead} {k : Refusal} (a : Surveyed) → SurveyedSo p q t row s at names count v next i → i < count
-      → r ≡ body_read (body_at names s next) → r.outcome ≡ outcome.Refused k → SurveysAll p q t row s at names count a
-  survey_refused {v} {next} {i} a S lt e o =
+  pub survey_refused : {v : Survey} {next i : ℕ} {r : Read Body} {k : Refusal} → SurveyedSo p q t row s at names count v next i → i < count
+      → r ≡ body_at names s next → r ≡ Err k → SurveysAll p q t row s at names count (Err k)
+  survey_refused {v} {next} {i} S lt e o =
       record { all = λ list bs end h few sp sq m. absurd (reach_bad (S.reached list bs end h few sp sq m) lt (body_refused names s next few e o)) }
 
-  pub survey_all : {v : Survey} {next i : ℕ} → SurveyedSo p q t row s at names count v next i → count ≤ i
-      → SurveysAll p q t row s at names count (record { outcome = outcome.Done; survey = v })
+  pub survey_all : {v : Survey} {next i : ℕ} → SurveyedSo p q t row s at names count v next i → count ≤ i → SurveysAll p q t row s at names count (Ok v)
   survey_all {v} S le =
-      record { all = λ list bs end h few sp sq m. (refl, reach_all (λ l. Surveys (view t list p q) row s l v) (S.reached list bs end h few sp sq m) le) }
+      record { all = λ list bs end h few sp sq m. (v, (refl, reach_all (λ l. Surveys (view t list p q) row s l v) (S.reached list bs end h few sp sq m) le)) }
 
 pub few_up : {m n : ℕ} {v : Survey} → Few m v → m ≤ n → Few n v
 few_up f h = record {

@@ -1,45 +1,36 @@
 -- One event received: the room that it takes, its two stores, and what becomes of it. Assumes nothing.
 use mathlib.Core.Path.{◌≡◌, refl, sym, ap, ◌∙◌}
-use mathlib.Core.Bool.{Bool, true, false, cond, not}
+use mathlib.Core.Bool.{Bool, true, false, cond}
 use mathlib.Core.List.{List, [], ◌∷◌}
-use Prim.Native.Nat.{ℕ, suc, ◌+◌, ◌≤◌, ◌<◌}
+use Prim.Native.Nat.{ℕ, suc, ◌+◌, ◌≤◌}
 use native.Mathlib.Omega.{arith}
 use lib.ListN.{length}
-use lib.Dec.{leb, eqb}
-use borrow.Author.Tests.{le-leb, lt-leb, leb-true, ne_eqb}
+use lib.Dec.{leb}
+use borrow.Author.Tests.{le-leb, leb-true}
 use Rattle.refusal.specs.declared.Refusal.{Refusal}
-use Rattle.refusal.specs.declared.Outcome.{Outcome}
-use Rattle.refusal.specs.declared.Outcome.TheVariants as outcome
 use Rattle.refusal.specs.Refusal.{no}
-use Rattle.lists.specs.Lists.{at}
-use Rattle.telegram.specs.Reading.{Whole, whole, refused}
-use Rattle.telegram.specs.declared.body.Body.{Body}
 use Rattle.store.specs.declared.event.Event.{Event}
-use Rattle.store.specs.declared.order.Cmp.{Cmp}
-use Rattle.store.specs.declared.order.Cmp.TheVariants.{Less, Same, More}
-use Rattle.store.specs.declared.order.Found.{Found}
-use Rattle.store.specs.declared.order.Found.TheVariants.{At, Gap}
-use Rattle.store.specs.declared.order.Kept.{Kept}
 use Rattle.store.specs.Orders.{choose, cmp_of, find_from, insert_sorted, keep, events, in_range, Put}
 use Rattle.store.specs.Orders as orders
-use Rattle.tcsb.specs.declared.tcsb.Store.{Store}
+use Rattle.store.specs.declared.order.Store.{Store}
 use Rattle.tcsb.specs.declared.tcsb.Tcsb.{Tcsb}
 use Rattle.tcsb.specs.declared.receive.Verdict.{Verdict}
 use Rattle.tcsb.specs.declared.receive.Verdict.TheVariants.{Taken}
-use Rattle.tcsb.specs.declared.receive.Receipt.TheVariants as receipt
-use Rattle.tcsb.specs.declared.receive.Received.{Received}
-use Rattle.tcsb.specs.Replica.{State, done, misnumbered, is_duplicate, is_stale, verdict_by, verdict_of, is_taken, insert_all, recorded}
+use Rattle.tcsb.specs.Replica.{State, done, is_duplicate, is_stale, verdict_by, verdict_of, is_taken, insert_all, recorded}
 use Rattle.tcsb.specs.Tcsb.{view, Stores}
-use Rattle.tcsb.specs.Receive.{new_to, room_of, not_received, Stored, Recorded, take_of, Takes}
+use Rattle.tcsb.specs.Receive.{new_to, room_of, Stored, Recorded, take_of, Takes}
 use Rattle.tcsb.proofs.Counting.{events-length}
+use Rattle.std.specs.Prelude.{Result, Ok, Err}
+use Rattle.std.specs.declared.cmp.Ordering.{Ordering}
+use Rattle.std.specs.declared.cmp.Ordering.TheVariants.{Less, Equal, Greater}
 
 -- ---- lengths
 
-longer : (r : Cmp) (e x : Event) (l m : List Event) (i : ℕ) (f : Found) → length m ≡ length l + new_to f
-    → length (choose r (x ∷ m) (e ∷ l) (e ∷ x ∷ l)) ≡ suc (length l) + new_to (choose r f (At i) (Gap i))
+longer : (r : Ordering) (e x : Event) (l m : List Event) (i : ℕ) (f : Result ℕ ℕ) → length m ≡ length l + new_to f
+    → length (choose r (x ∷ m) (e ∷ l) (e ∷ x ∷ l)) ≡ suc (length l) + new_to (choose r f (Ok i) (Err i))
 longer Less e x l m i f h = omega (arith, h)
-longer Same e x l m i f h = omega arith
-longer More e x l m i f h = omega arith
+longer Equal e x l m i f h = omega arith
+longer Greater e x l m i f h = omega arith
 
 -- an event that is put in makes a list longer by one where its id is new
 pub insert_length : (e : Event) (i : ℕ) (l : List Event) → length (insert_sorted e l) ≡ length l + new_to (find_from e.origin.0 e.number i l)
@@ -54,21 +45,10 @@ pub stored-length : {c : ℕ} (p : List ℕ) (store : Store) (e : Event) → ord
     → length (insert_sorted e (events p store.order)) ≡ store.order.count + new_to (find_from e.origin.0 e.number 0 (events p store.order))
 stored-length p store e g = omega (arith, insert_length e 0 (events p store.order), events-length p store.order store.free g)
 
--- ---- room
-
-pub room_full : (w m k x : ℕ) → 64 < w + m → outcome.Refused (no 12) ≡ room_of w m k x
-room_full w m k x h = rw (lt-leb (w + m) 64 h) refl
-
-pub room-kept : (w m k x : ℕ) → w + m ≤ 64 → 256 < k + x → outcome.Refused (no 13) ≡ room_of w m k x
-room-kept w m k x h g = rw (le-leb (w + m) 64 h, lt-leb (k + x) 256 g) refl
-
-pub room-done : (w m k x : ℕ) → w + m ≤ 64 → k + x ≤ 256 → outcome.Done ≡ room_of w m k x
-room-done w m k x h g = rw (le-leb (w + m) 64 h, le-leb (k + x) 256 g) refl
-
 -- ---- a store
 
-pub put_stored : {p q : List ℕ} {store : Store} {e : Event} {r : Kept} → Put p q store.order store.free e r → Stored p q store e (record { order = r.order; free = r.free })
-put_stored {p} {q} {store} {e} {r} h = record {
+pub put_stored : {p q : List ℕ} {store store' : Store} {e : Event} {done : Bool} → Put p q store store' e done → Stored p q store e store'
+put_stored {p} {q} {store} {store'} {e} {done} h = record {
   long = h.long;
   list = λ c g i l. h.list c g (h.answers c g ∙ rw (i, le-leb (length (insert_sorted e (events p store.order))) c l) refl);
   good = h.good;
@@ -77,7 +57,7 @@ put_stored {p} {q} {store} {e} {r} h = record {
 -- ---- what is recorded of one event
 
 -- nothing, where it isn't taken
-pub recorded-none : (st : State) (e : Event) → is_taken (verdict_of st e) ≡ false → length st.inbox ≤ 64 → length st.outbox ≤ 256 → recorded st (e ∷ []) ≡ whole st
+pub recorded-none : (st : State) (e : Event) → is_taken (verdict_of st e) ≡ false → length st.inbox ≤ 64 → length st.outbox ≤ 256 → recorded st (e ∷ []) ≡ Ok st
 unfolding recorded insert_all keep
 recorded-none st e v h g = rw (v, le-leb (length st.inbox) 64 h, le-leb (length st.outbox) 256 g) refl
 
@@ -93,23 +73,24 @@ with_one st e = record {
 }
 
 -- a state where there is room for it
-abbrev room_told : Outcome → State → Whole State
-room_told outcome.Done st = whole st
-room_told (outcome.Refused k) st = refused k
+abbrev room_told : Result (Unit {0}) Refusal → State → Result State Refusal
+room_told (Ok tt) st = Ok st
+room_told (Err k) st = Err k
 
 recorded_one : (st : State) (e : Event) → verdict_of st e ≡ Taken
-    → recorded st (e ∷ []) ≡ cond (leb (length (insert_sorted e st.inbox)) 64) (cond (leb (length (insert_sorted e st.outbox)) 256) (whole (with_one st e)) (refused (no 13))) (refused (no 12))
+    → recorded st (e ∷ [])
+    ≡ cond (leb (length (insert_sorted e st.inbox)) 64) (cond (leb (length (insert_sorted e st.outbox)) 256) (Ok (with_one st e)) (Err (no 13))) (Err (no 12))
 unfolding recorded insert_all keep
 recorded_one st e v = rw v refl
 
 told_cond : (a b : Bool) (st : State)
-    → cond a (cond b (whole st) (refused (no 13))) (refused (no 12)) ≡ room_told (cond a (cond b outcome.Done (outcome.Refused (no 13))) (outcome.Refused (no 12))) st
+    → cond a (cond b (Ok st) (Err (no 13))) (Err (no 12)) ≡ room_told (cond a (cond b (Ok tt) (Err (no 13))) (Err (no 12))) st
 told_cond true true st = refl
 told_cond true false st = refl
 told_cond false b st = refl
 
 -- room for both is told by Done
-room_told_lem : (a b : Bool) → outcome.Done ≡ cond a (cond b outcome.Done (outcome.Refused (no 13))) (outcome.Refused (no 12)) → (a ≡ true) × (b ≡ true)
+room_told_lem : (a b : Bool) → ◌≡◌ {A = Result (Unit {0}) Refusal} (Ok tt) (cond a (cond b (Ok tt) (Err (no 13))) (Err (no 12))) → (a ≡ true) × (b ≡ true)
 room_told_lem true true h = (refl, refl)
 room_told_lem true false h = absurd (let z : ◌≡◌ {A = ℕ} 0 1 = cc in omega arith)
 room_told_lem false b h = absurd (let z : ◌≡◌ {A = ℕ} 0 1 = cc in omega arith)
@@ -119,16 +100,11 @@ pub verdict_view : (t : Tcsb) (list p q : List ℕ) (e : Event) → verdict_of (
 unfolding verdict_of is_duplicate is_stale
 verdict_view t list p q e = refl
 
--- ---- a number that is read
-
-pub misnumbered_by : (b : Body) (x : ℕ) → (b.number ≡ 0 → ⊥) → x ≡ at b.entries b.place.0 → not (eqb b.number x) ≡ misnumbered b
-misnumbered_by b x h e = rw (e, ne_eqb b.number 0 h) refl
-
 -- ---- what becomes of one event
 
 module _ (t : Tcsb) (p q : List ℕ) (e : Event) where
   -- one that isn't taken leaves the state
-  none_more : (list : List ℕ) → Stores t p q → is_taken (verdict_by t.matrix t.frontier e) ≡ false → recorded (view t list p q) (e ∷ []) ≡ whole (view t list p q)
+  none_more : (list : List ℕ) → Stores t p q → is_taken (verdict_by t.matrix t.frontier e) ≡ false → recorded (view t list p q) (e ∷ []) ≡ Ok (view t list p q)
   none_more list S h =
       recorded-none (view t list p q) e (rw (verdict_view t list p q e) h)
       (omega (arith, events-length p t.inbox.order t.inbox.free S.inbox, S.inbox.counts))
@@ -140,33 +116,34 @@ module _ (t : Tcsb) (p q : List ℕ) (e : Event) where
       rw (none_more list S (rw g h), verdict_view t list p q e, g) refl
 
   -- one that isn't taken changes nothing
-  pub takes_none : {r : Verdict} (v : Verdict) → r ≡ verdict_by t.matrix t.frontier e → r ≡ v → is_taken v ≡ false
-      → Takes p p q q t e (record { receipt = receipt.Is v; tcsb = t })
-  takes_none v j g h = record {
-    answers = λ list S. rw (none-taken list v S (sym j ∙ g) h) refl;
-    leaves = λ list S i. rw (none-taken list v S (sym j ∙ g) h) refl;
+  pub takes_none : {v : Verdict} → v ≡ verdict_by t.matrix t.frontier e → is_taken v ≡ false → Takes p p q q t e t (Ok v)
+  takes_none {v} j h = record {
+    answers = λ list S. rw (none-taken list v S (sym j) h) refl;
+    leaves = λ list S i. rw (none-taken list v S (sym j) h) refl;
     stores = λ S. S;
     fixed = refl;
     kept = λ k z. absurd (let z : ◌≡◌ {A = ℕ} 0 1 = cc in omega arith);
   }
 
   -- how many more the stores would have
-  abbrev more_in : ℕ
+  abbrev pub more_in : ℕ
   more_in = new_to (find_from e.origin.0 e.number 0 (events p t.inbox.order))
 
-  abbrev more_out : ℕ
+  abbrev pub more_out : ℕ
   more_out = new_to (find_from e.origin.0 e.number 0 (events q t.outbox.order))
 
   -- one that is to be taken, and its room
-  pub record Roomed (v : Verdict) (o : Outcome) : Type 0 where
+  pub record Roomed (v : Verdict) (o : Result (Unit {0}) Refusal) : Type 0 where
     pub verdict : v ≡ verdict_by t.matrix t.frontier e
     pub taken : v ≡ Taken
     pub room : o ≡ room_of t.inbox.order.count more_in t.outbox.order.count more_out
 
-  pub roomed : {v : Verdict} {o : Outcome} {m x : ℕ} → v ≡ verdict_by t.matrix t.frontier e → v ≡ Taken → m ≡ more_in → x ≡ more_out → o ≡ room_of t.inbox.order.count m t.outbox.order.count x → Roomed v o
+  pub roomed : {v : Verdict} {o : Result (Unit {0}) Refusal} {m x : ℕ} → v ≡ verdict_by t.matrix t.frontier e → v ≡ Taken → m ≡ more_in → x ≡ more_out
+      → o ≡ room_of t.inbox.order.count m t.outbox.order.count x → Roomed v o
   roomed j g m x o = record { verdict = j; taken = g; room = rw (← m, ← x) o }
 
-  one_taken : {v : Verdict} {o : Outcome} (list : List ℕ) → Stores t p q → Roomed v o → recorded (view t list p q) (e ∷ []) ≡ room_told o (with_one (view t list p q) e)
+  one_taken : {v : Verdict} {o : Result (Unit {0}) Refusal} (list : List ℕ) → Stores t p q → Roomed v o
+      → recorded (view t list p q) (e ∷ []) ≡ room_told o (with_one (view t list p q) e)
   one_taken {v} {o} list S R =
       recorded_one (view t list p q) e (verdict_view t list p q e ∙ (sym R.verdict ∙ R.taken))
       ∙ (told_cond (leb (length (insert_sorted e (events p t.inbox.order))) 64) (leb (length (insert_sorted e (events q t.outbox.order))) 256) (with_one (view t list p q) e)
@@ -177,19 +154,18 @@ module _ (t : Tcsb) (p q : List ℕ) (e : Event) where
       ) refl)
 
   -- one that finds no room
-  pub takes_not : {v : Verdict} {o : Outcome} {k : Refusal} {r : Received} → Roomed v o → o ≡ outcome.Refused k → r ≡ not_received t k → Takes p p q q t e r
-  takes_not {v} {o} {k} {r} R h g =
-      rw g (record {
-        answers = λ list S. rw (one_taken list S R, h) refl;
-        leaves = λ list S i. rw (one_taken list S R, h) refl;
-        stores = λ S. S;
-        fixed = refl;
-        kept = λ k z. (refl, (refl, refl));
-      })
+  pub takes_not : {v : Verdict} {o : Result (Unit {0}) Refusal} {k : Refusal} → Roomed v o → o ≡ Err k → Takes p p q q t e t (Err k)
+  takes_not {v} {o} {k} R h = record {
+    answers = λ list S. rw (one_taken list S R, h) refl;
+    leaves = λ list S i. rw (one_taken list S R, h) refl;
+    stores = λ S. S;
+    fixed = refl;
+    kept = λ k z. (refl, (refl, refl));
+  }
 
   -- one that is taken
-  pub takes_one : {v : Verdict} {o : Outcome} {p' q' : List ℕ} {t' : Tcsb} → Roomed v o → o ≡ outcome.Done → Recorded p p' q q' t e t'
-      → Takes p p' q q' t e (record { receipt = receipt.Is Taken; tcsb = t' })
+  pub takes_one : {v : Verdict} {o : Result (Unit {0}) Refusal} {p' q' : List ℕ} {t' : Tcsb} → Roomed v o → o ≡ (Ok tt) → Recorded p p' q q' t e t'
+      → Takes p p' q q' t e t' (Ok Taken)
   takes_one {v} {o} {p'} {q'} {t'} R h r = record {
     answers = λ list S. rw (one_taken list S R, h, verdict_view t list p q e, ← R.verdict, R.taken) refl;
     leaves = λ list S i. rw (one_taken list S R, h) (after list S i);

@@ -7,18 +7,17 @@ use native.Mathlib.Omega.{arith}
 use lib.ListN.{length, get_or}
 use lib.Dec.{leb}
 use borrow.Author.Tests.{le-ltb, lt-leb, le-leb, eq-eqb, leb-true}
-use Rattle.refusal.specs.declared.Outcome.{Outcome}
-use Rattle.refusal.specs.declared.Outcome.TheVariants.{Done, Refused}
-use Rattle.refusal.specs.Refusal.{unless}
 use Rattle.lists.specs.Lists.{all}
 use Rattle.lists.proofs.Laws.{all-at, all-each, and_both}
 use Rattle.clock.specs.Version.{fits_of}
 use Rattle.clock.specs.Matrix.{cell, diagonal, dominate, fits_matrix, valid_of}
-use Rattle.clock.specs.declared.id.Tested.TheVariants as tested
 use Rattle.clock.specs.declared.matrix_clock.MatrixClock.{MatrixClock}
 use Rattle.clock.proofs.Matrices.{Fits, fits_done}
 use Rattle.tcsb.specs.Replica.{State, members, counts_fit}
 use Rattle.tcsb.specs.WellFormed.{WellFormed}
+use Rattle.std.specs.Prelude.{Result, Ok, Err}
+use Rattle.refusal.specs.declared.Refusal.{Refusal}
+use Rattle.refusal.specs.Refusal.{then}
 
 -- 2 to 16 members, we are one of them; no row i has entry j above row j's entry j, and our own row is the largest
 pub record Valid (m : MatrixClock) : Type 0 where
@@ -28,7 +27,7 @@ pub record Valid (m : MatrixClock) : Type 0 where
   pub under : (i j : ℕ) → i < m.members → j < m.members → cell m.rows i j ≤ cell m.rows j j
   pub largest : (i j : ℕ) → i < m.members → j < m.members → cell m.rows i j ≤ cell m.rows m.origin.0 j
 
-pub done_fits : (n m i j : ℕ) → Fits n m i j → fits_of n m i j ≡ Done
+pub done_fits : (n m i j : ℕ) → Fits n m i j → fits_of n m i j ≡ Ok (tt {0})
 unfolding fits_of
 done_fits n m i j h =
     rw (le-ltb n 2 h.two, le-ltb 16 n h.few, eq-eqb n m h.like, lt-leb n i h.place, lt-leb n j h.another) refl
@@ -42,12 +41,12 @@ cells_each : (n : ℕ) (f g : ℕ → ℕ → ℕ) → ((i j : ℕ) → i < n �
 cells_each n f g h =
     all-each n (λ i. all n (λ j. leb (f i j) (g i j))) (λ i lt. all-each n (λ j. leb (f i j) (g i j)) (λ j lu. le-leb (f i j) (g i j) (h i j lt lu)))
 
-pub valid_facts : (m : MatrixClock) → valid_of m ≡ tested.Is true → Valid m
+pub valid_facts : (m : MatrixClock) → valid_of m ≡ Ok true → Valid m
 valid_facts m = go (fits_matrix m m.origin.0) refl
   where
-    go : (o : Outcome) → fits_matrix m m.origin.0 ≡ o
-        → unless o tested.Refused (tested.Is (diagonal m.rows m.members && dominate m.rows m.members m.origin.0)) ≡ tested.Is true → Valid m
-    go Done e h =
+    go : (o : Result (Unit {0}) Refusal) → fits_matrix m m.origin.0 ≡ o
+        → then o (λ _. Ok (diagonal m.rows m.members && dominate m.rows m.members m.origin.0)) ≡ Ok true → Valid m
+    go (Ok u) e h =
         let f = fits_done m.members m.members m.origin.0 m.origin.0 e in
         let t : (diagonal m.rows m.members && dominate m.rows m.members m.origin.0) ≡ true = cc in
         let b = and_both (diagonal m.rows m.members) (dominate m.rows m.members m.origin.0) t in
@@ -58,9 +57,9 @@ valid_facts m = go (fits_matrix m m.origin.0) refl
           under = cells_at m.members (λ i j. cell m.rows i j) (λ i j. cell m.rows j j) b.0;
           largest = cells_at m.members (λ i j. cell m.rows i j) (λ i j. cell m.rows m.origin.0 j) b.1;
         }
-    go (Refused r) e h = absurd (let z : ◌≡◌ {A = ℕ} 0 1 = cc in omega arith)
+    go (Err r) e h = absurd (let z : ◌≡◌ {A = ℕ} 0 1 = cc in omega arith)
 
-pub facts_valid : (m : MatrixClock) → Valid m → valid_of m ≡ tested.Is true
+pub facts_valid : (m : MatrixClock) → Valid m → valid_of m ≡ Ok true
 facts_valid m v =
     rw (
       done_fits m.members m.members m.origin.0 m.origin.0

@@ -6,15 +6,16 @@ use Prim.Native.Nat.{ℕ, suc, ◌+◌, ◌-◌, ◌≤◌, ◌<◌}
 use native.Mathlib.Omega.{arith}
 use borrow.Author.Tests.{le-leb}
 use Rattle.refusal.specs.declared.Refusal.{Refusal}
-use Rattle.refusal.specs.declared.Outcome.TheVariants as outcome
-use Rattle.telegram.specs.Fields.{Got, got, bad, after, many}
-use Rattle.telegram.specs.Reading.{body, body_at, body_read}
-use Rattle.telegram.specs.declared.body.BodyRead.{BodyRead}
+use Rattle.telegram.specs.Fields.{after, many}
+use Rattle.telegram.specs.Reading.{body, body_at}
 use Rattle.telegram.proofs.Steps.{got_same, after_is}
-use Rattle.telegram.proofs.Told.{body-got, body-bad}
 use Rattle.store.specs.Orders.{In}
+use Rattle.std.specs.Prelude.{Ok, Err}
+use Rattle.leb128.specs.Leb128.{Read, got}
+use Rattle.leb128.specs.declared.Got.{Got}
+use Rattle.telegram.specs.declared.body.Body.{Body}
 
-module _ {A : Type 0} (f : ℕ → Got A) where
+module _ {A : Type 0} (f : ℕ → Read A) where
   many-none : (n at : ℕ) {l : List A} {end : ℕ} → n ≡ 0 → many n f at ≡ got l end → l ≡ []
   unfolding many
   many-none n at e h = sym (got_same (rw e at h)).0
@@ -24,11 +25,11 @@ module _ {A : Type 0} (f : ℕ → Got A) where
   unfolding many
   many-first n m at a next e h g = rw (e, h) at g
 
-  many-bad : (n m at : ℕ) {l : List A} {end : ℕ} (k : Refusal) → n ≡ suc m → f at ≡ bad k → many n f at ≡ got l end → bad k ≡ got l end
+  many-bad : (n m at : ℕ) {l : List A} {end : ℕ} (k : Refusal) → n ≡ suc m → f at ≡ Err k → many n f at ≡ got l end → Err k ≡ got l end
   unfolding many
   many-bad n m at k e h g = rw (e, h) at g
 
-bad-got : {A : Type 0} {k : Refusal} {a : A} {next : ℕ} → bad k ≡ got a next → ⊥
+bad-got : {A : Type 0} {k : Refusal} {a : A} {next : ℕ} → Err k ≡ got a next → ⊥
 bad-got e = let z : ◌≡◌ {A = ℕ} 0 1 = cc in omega arith
 
 -- an element behind some others
@@ -37,14 +38,14 @@ in_behind [] a m = Memᴰ.head refl
 in_behind (x ∷ l) a m = Memᴰ.tail (in_behind l a m)
 
 -- of the things of a list, n in number, i are read, and the others stand from a place on; P holds of those that are read
-pub record Reached {A : Type 0} (f : ℕ → Got A) (n : ℕ) (l : List A) (end i next : ℕ) (P : List A → Type 0) : Type 0 where
+pub record Reached {A : Type 0} (f : ℕ → Read A) (n : ℕ) (l : List A) (end i next : ℕ) (P : List A → Type 0) : Type 0 where
   pub read : List A
   pub rest : List A
   pub parts : read ++ rest ≡ l
   pub left : many (n - i) f next ≡ got rest end
   pub so_far : P read
 
-module _ {A : Type 0} {f : ℕ → Got A} {n : ℕ} {l : List A} {end : ℕ} where
+module _ {A : Type 0} {f : ℕ → Read A} {n : ℕ} {l : List A} {end : ℕ} where
   pub reach_none : {at : ℕ} {P : List A → Type 0} → many n f at ≡ got l end → P [] → Reached f n l end 0 at P
   reach_none {at} e p = record { read = []; rest = l; parts = refl; left = let q : n - 0 ≡ n = omega arith in rw q e; so_far = p }
 
@@ -63,7 +64,7 @@ module _ {A : Type 0} {f : ℕ → Got A} {n : ℕ} {l : List A} {end : ℕ} whe
         so_far = step R.read (rw (← parts) (in_behind R.read a m)) R.so_far;
       })
 
-  pub reach_bad : {i next : ℕ} {P : List A → Type 0} {k : Refusal} → Reached f n l end i next P → i < n → f next ≡ bad k → ⊥
+  pub reach_bad : {i next : ℕ} {P : List A → Type 0} {k : Refusal} → Reached f n l end i next P → i < n → f next ≡ Err k → ⊥
   reach_bad {i} {next} {P} {k} R lt e = bad-got (many-bad f (n - i) (n - (i + 1)) next k (omega arith) e R.left)
 
   pub reach_all : {i next : ℕ} (P : List A → Type 0) → Reached f n l end i next P → n ≤ i → P l
@@ -77,8 +78,8 @@ module _ {A : Type 0} {f : ℕ → Got A} {n : ℕ} {l : List A} {end : ℕ} whe
 few-names : (count : ℕ) (s : List ℕ) (at : ℕ) → count ≤ 16 → body_at count s at ≡ body count s at
 few-names count s at h = rw (le-leb count 16 h) refl
 
-pub body-done : (count : ℕ) (s : List ℕ) (at : ℕ) {r : BodyRead} → count ≤ 16 → r ≡ body_read (body_at count s at) → r.outcome ≡ outcome.Done → body count s at ≡ got r.body r.next
-body-done count s at few e h = body-got count s at (e ∙ ap body_read (few-names count s at few)) h
+pub body-done : (count : ℕ) (s : List ℕ) (at : ℕ) {r : Read Body} {g : Got Body} → count ≤ 16 → r ≡ body_at count s at → r ≡ Ok g → body count s at ≡ got g.value g.next
+body-done count s at few e h = sym (few-names count s at few) ∙ (sym e ∙ h)
 
-pub body_refused : (count : ℕ) (s : List ℕ) (at : ℕ) {r : BodyRead} {k : Refusal} → count ≤ 16 → r ≡ body_read (body_at count s at) → r.outcome ≡ outcome.Refused k → body count s at ≡ bad k
-body_refused count s at few e h = body-bad count s at (e ∙ ap body_read (few-names count s at few)) h
+pub body_refused : (count : ℕ) (s : List ℕ) (at : ℕ) {r : Read Body} {k : Refusal} → count ≤ 16 → r ≡ body_at count s at → r ≡ Err k → body count s at ≡ Err k
+body_refused count s at few e h = sym (few-names count s at few) ∙ (sym e ∙ h)

@@ -9,48 +9,49 @@ use lib.Dec.{leb}
 use borrow.Author.Tests.{le-leb}
 use Rattle.refusal.specs.declared.Refusal.{Refusal}
 use Rattle.refusal.specs.Refusal.{no}
-use Rattle.leb128.specs.declared.Written.{Written}
-use Rattle.leb128.specs.declared.Written.TheVariants as written
-use Rattle.telegram.specs.Reading.{whole}
 use Rattle.telegram.specs.Writing.{Wrote}
 use Rattle.tcsb.specs.Replica.{State, Call, done, not_done, state_after, lent}
 use Rattle.tcsb.specs.WellFormed.{WellFormed}
 use Rattle.tcsb.specs.Tcsb.{view, Sound, Good, Writes, WritesIf}
-use Rattle.tcsb.specs.Writing.{not_sent}
 use Rattle.tcsb.proofs.Calls.{good-after, outbox_words, writes_short, room-none, room-some}
 use Rattle.tcsb.specs.declared.tcsb.Tcsb.{Tcsb}
-use Rattle.tcsb.specs.declared.writing.Sent.{Sent}
+use Rattle.std.specs.Prelude.{Result, Ok, Err}
+use Rattle.std.specs.Result.{IsErrAnd}
 
 -- what was written is not refused
-pub next_clash : {A : Type 0} {n : ℕ} {k : Refusal} → written.Next n ≡ written.Refused k → A
+pub next_clash : {A : Type 0} {n : ℕ} {k : Refusal} → Ok n ≡ Err k → A
 next_clash e = let z : ◌≡◌ {A = ℕ} 0 1 = cc in absurd (omega arith)
+
+-- a refusal that is passed on by `?` is the same one
+pub passed_on : {A : Type 0} (r : Result A Refusal) (k : Refusal) {P : Refusal → Type 0} → IsErrAnd r P → ((j : Refusal) → P j → j ≡ k) → r ≡ Err k
+passed_on (Ok a) k h f = absurd h
+passed_on (Err j) k h f = ap Err (f j h)
 
 -- ---- the parts, from a fact on
 
 module _ {F : Type 0} {list p q out : List ℕ} {t : Tcsb} (want : State → Call (List ℕ)) where
   -- the call is refused before anything is written
-  pub if_refused : {r : Sent} {k : Refusal} → r ≡ not_sent t k → (F → Good t list p q → want (view t list p q) ≡ not_done k)
-      → WritesIf F list p p q q out out t r.tcsb r.written want
-  if_refused e h = record {
-    wrote = λ f g. rw (e, h f g) (record { answers = refl; holds = refl });
-    leaves = λ f g. rw (e, h f g) refl;
-    sound = λ f g. rw e g.sound;
-    kept = λ j said. (ap (λ (r : Sent). r.tcsb) e, (refl, (refl, refl)));
+  pub if_refused : {k : Refusal} → (F → Good t list p q → want (view t list p q) ≡ not_done k) → WritesIf F list p p q q out out t t (Err k) want
+  if_refused h = record {
+    wrote = λ f g. rw (h f g) (record { answers = refl; holds = refl });
+    leaves = λ f g. rw (h f g) refl;
+    sound = λ f g. g.sound;
+    kept = λ j said. (refl, (refl, (refl, refl)));
   }
 
-  module _ {after : List ℕ} {answer : Written} (b : List ℕ) (st : State) (is : F → Good t list p q → want (view t list p q) ≡ done b st)
-      (w : F → Good t list p q → Wrote out after 0 0 (whole b) answer) where
+  module _ {after : List ℕ} {answer : Result ℕ Refusal} (b : List ℕ) (st : State) (is : F → Good t list p q → want (view t list p q) ≡ done b st)
+      (w : F → Good t list p q → Wrote out after 0 0 (Ok b) answer) where
     -- what is to be written has no room
-    pub if_unwritten : {r : Sent} {k : Refusal} → r ≡ not_sent t k → answer ≡ written.Refused k → after ≡ out → WritesIf F list p p q q out after t r.tcsb r.written want
-    if_unwritten e said same = record {
-      wrote = λ f g. rw (e, is f g) (rw said at (w f g));
-      leaves = λ f g. rw (e, is f g, room-none b (w f g) said) refl;
-      sound = λ f g. rw e g.sound;
-      kept = λ j told. (ap (λ (r : Sent). r.tcsb) e, (refl, (refl, same)));
+    pub if_unwritten : {k : Refusal} → answer ≡ Err k → after ≡ out → WritesIf F list p p q q out after t t (Err k) want
+    if_unwritten said same = record {
+      wrote = λ f g. rw (is f g) (rw said at (w f g));
+      leaves = λ f g. rw (is f g, room-none b (w f g) said) refl;
+      sound = λ f g. g.sound;
+      kept = λ j told. (refl, (refl, (refl, same)));
     }
 
-    pub if_written : {t' : Tcsb} {q' : List ℕ} {n : ℕ} → answer ≡ written.Next n → (F → Good t list p q → view t' list p q' ≡ st) → (F → Good t list p q → Sound t' list p q')
-        → WritesIf F list p p q q' out after t t' (written.Next n) want
+    pub if_written : {t' : Tcsb} {q' : List ℕ} {n : ℕ} → answer ≡ Ok n → (F → Good t list p q → view t' list p q' ≡ st) → (F → Good t list p q → Sound t' list p q')
+        → WritesIf F list p p q q' out after t t' (Ok n) want
     if_written said view-is s = record {
       wrote = λ f g. rw (is f g) (rw said at (w f g));
       leaves = λ f g. rw (is f g, room-some b (w f g) said) (view-is f g);
@@ -68,7 +69,7 @@ lent-well out st (done b after) w a = pick (leb (length b) (length out))
     pick false = w
 lent-well out st (not_done k) w a = w
 
-pub writes_of : {F : Type 0} {list p q q' out after : List ℕ} {t t' : Tcsb} {answer : Written} (want : State → Call (List ℕ)) → 6912 ≤ length q → (Good t list p q → F)
+pub writes_of : {F : Type 0} {list p q q' out after : List ℕ} {t t' : Tcsb} {answer : Result ℕ Refusal} (want : State → Call (List ℕ)) → 6912 ≤ length q → (Good t list p q → F)
     → ((st : State) → WellFormed st → WellFormed (state_after st (want st))) → WritesIf F list p p q q' out after t t' answer want
     → Writes list p p q q' out after (leb 6912 (length q)) t t' answer want
 writes_of {list = list} {p = p} {q = q} {out = out} {t = t} want room fact well w = record {
@@ -82,12 +83,12 @@ writes_of {list = list} {p = p} {q = q} {out = out} {t = t} want room fact well 
 }
 
 -- where nothing is assumed but that the replica is good
-pub writes_all : {list p q q' out after : List ℕ} {t t' : Tcsb} {answer : Written} (want : State → Call (List ℕ)) → 6912 ≤ length q
+pub writes_all : {list p q q' out after : List ℕ} {t t' : Tcsb} {answer : Result ℕ Refusal} (want : State → Call (List ℕ)) → 6912 ≤ length q
     → ((st : State) → WellFormed st → WellFormed (state_after st (want st))) → WritesIf (Good t list p q) list p p q q' out after t t' answer want
     → Writes list p p q q' out after (leb 6912 (length q)) t t' answer want
 writes_all want room well w = writes_of want room (λ g. g) well w
 
 -- words that are too short
-pub unsent_short : {list p q out : List ℕ} {t : Tcsb} {r : Sent} (want : State → Call (List ℕ)) → length q < 6912 → r ≡ not_sent t (no 4)
-    → Writes list p p q q out out (leb 6912 (length q)) t r.tcsb r.written want
-unsent_short want lt e = rw e (writes_short (λ g. omega (arith, outbox_words g)))
+pub unsent_short : {list p q out : List ℕ} {t : Tcsb} (want : State → Call (List ℕ)) → length q < 6912
+    → Writes list p p q q out out (leb 6912 (length q)) t t (Err (no 4)) want
+unsent_short want lt = writes_short (λ g. omega (arith, outbox_words g))

@@ -1,15 +1,14 @@
 -- Document 01's bench sheet, the rows marked P: members A, B, C, we are A. One table, a field for each row. Assumes nothing.
 use Rattle.std.specs.Prelude.{ℕ, zero, suc, ◌≡◌, true, false, List, [], ◌∷◌, ◌++◌, take}
-use Rattle.refusal.specs.declared.Outcome.TheVariants as outcome
 use Rattle.refusal.specs.Refusal.{no}
-use Rattle.leb128.specs.declared.NumberRead.TheVariants as numberRead
 use Rattle.leb128.specs.Leb128.{spell, read_at}
 use Rattle.clock.specs.declared.version_vector.Version.{Version}
-use Rattle.clock.specs.declared.version_vector.Order.TheVariants as order
-use Rattle.clock.specs.declared.version_vector.Compared.TheVariants as compared
-use Rattle.clock.specs.Version.{compare_of, join_of, done_version, kept_version, dependencies_of, dependencies}
+use Rattle.clock.specs.Version.{compare_of, join_of, dependencies_of, dependencies}
 use Rattle.telegram.specs.Reading.{filled}
 use Rattle.tcsb.specs.Replica.{State, state_after, Pick, none, at_place, zero_state, receive_of, send_of, next_of, after_pick, is_settled, frontier_call, cut}
+use Rattle.std.specs.Prelude.{Ok, Err, Some, None}
+use Rattle.std.specs.declared.cmp.Ordering.TheVariants.{Less, Equal, Greater}
+use Rattle.leb128.specs.Leb128.{got}
 
 -- ---- versions: {a,b,c}@origin
 
@@ -61,15 +60,15 @@ three = take 3
 -- ---- the table
 
 pub record Rows : Type 0 where
-  pub greater : compare_of (version 2 0 0 0) (version 1 9 0 0) ≡ compared.Is order.Greater
-  pub less : compare_of (version 1 0 9 0) (version 1 1 0 1) ≡ compared.Is order.Less
-  pub concurrent : compare_of (version 2 0 0 0) (version 1 1 0 1) ≡ compared.Is order.Concurrent
-  pub equal : compare_of (version 1 1 0 0) (version 1 1 0 1) ≡ compared.Is order.Equal
-  pub join_unchanged : join_of (version 2 3 0 0) (version 0 3 5 1) ≡ done_version (version 2 3 0 0)
-  pub join_larger : join_of (version 2 3 0 0) (version 0 4 5 1) ≡ done_version (version 2 4 5 0)
-  pub join_refused : join_of (version 2 3 0 0) (version 7 0 7 1) ≡ kept_version (version 2 3 0 0) (no 11)
+  pub greater : compare_of (version 2 0 0 0) (version 1 9 0 0) ≡ Ok (Some Greater)
+  pub less : compare_of (version 1 0 9 0) (version 1 1 0 1) ≡ Ok (Some Less)
+  pub concurrent : compare_of (version 2 0 0 0) (version 1 1 0 1) ≡ Ok None
+  pub equal : compare_of (version 1 1 0 0) (version 1 1 0 1) ≡ Ok (Some Equal)
+  pub join_unchanged : join_of (version 2 3 0 0) (version 0 3 5 1) ≡ Ok (version 2 3 0 0)
+  pub join_larger : join_of (version 2 3 0 0) (version 0 4 5 1) ≡ Ok (version 2 4 5 0)
+  pub join_refused : join_of (version 2 3 0 0) (version 7 0 7 1) ≡ Err (no 11)
   pub depends : dependencies_of (version 1 0 2 0)
-      ≡ dependencies outcome.Done (record { idx = record { 0 = 0 }; seq = 0 } ∷ record { idx = record { 0 = 2 }; seq = 2 } ∷ [])
+      ≡ Ok (dependencies (record { idx = record { 0 = 0 }; seq = 0 } ∷ record { idx = record { 0 = 2 }; seq = 2 } ∷ []))
   pub not_ready : (nexts 1 B2-waits).ids ≡ []
   pub in_order : (nexts 3 (received B2-waits (telegram 1 1 0 1 0))).ids ≡ (1, 1) ∷ (1, 2) ∷ []
   pub lowest_place : (nexts 1 (received (received founded (telegram 2 1 0 0 1)) (telegram 1 1 0 1 0))).ids ≡ (1, 1) ∷ []
@@ -77,9 +76,9 @@ pub record Rows : Type 0 where
   pub spelt_128 : spell 128 ≡ 128 ∷ 1 ∷ []
   pub spelt_65535 : spell 65535 ≡ 255 ∷ 255 ∷ 3 ∷ []
   pub spelt_65536 : spell 65536 ≡ 128 ∷ 128 ∷ 4 ∷ []
-  pub last_number : read_at (255 ∷ 255 ∷ 255 ∷ 255 ∷ 15 ∷ []) 0 ≡ numberRead.Value 4294967295 5
-  pub too_large : read_at (255 ∷ 255 ∷ 255 ∷ 255 ∷ 16 ∷ []) 0 ≡ numberRead.Refused (no 2)
-  pub not_shortest : read_at (128 ∷ 0 ∷ []) 0 ≡ numberRead.Refused (no 2)
+  pub last_number : read_at (255 ∷ 255 ∷ 255 ∷ 255 ∷ 15 ∷ []) 0 ≡ got 4294967295 5
+  pub too_large : read_at (255 ∷ 255 ∷ 255 ∷ 255 ∷ 16 ∷ []) 0 ≡ Err (no 2)
+  pub not_shortest : read_at (128 ∷ 0 ∷ []) 0 ≡ Err (no 2)
   pub list_ABC : three with_C1.raised.raised ≡ true ∷ true ∷ true ∷ []
   pub frontier_120 : three (cut (frontier_call with_C1)) ≡ 1 ∷ 2 ∷ 0 ∷ []
   pub list_B : three without_C1.raised.raised ≡ false ∷ true ∷ false ∷ []

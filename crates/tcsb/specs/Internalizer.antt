@@ -1,16 +1,16 @@
 -- Names to places, from document 01: a member's place in our list and its place in a sender's list are never to be confused; only
 -- the sender's row turns the second into the first. Assumes nothing.
 use Rattle.std.specs.Prelude.{ℕ, zero, suc, Bool, cond, ◌&&◌, List, [], ◌∷◌, length, get_or, set, leb, ltb, eqb}
-use Rattle.refusal.specs.declared.Outcome.TheVariants as outcome
 use Rattle.refusal.specs.Refusal.{no}
 use Rattle.lists.specs.Lists.{at, tab, all}
 use Rattle.clock.specs.Entries.{zero_entries}
 use Rattle.telegram.specs.Fields.{text}
-use Rattle.telegram.specs.Reading.{Whole, whole, refused, same_bytes}
+use Rattle.telegram.specs.Reading.{same_bytes}
 use Rattle.telegram.specs.declared.body.Body.{Body}
 use Rattle.store.specs.declared.event.Event.{Event}
 use Rattle.tcsb.specs.declared.internalizer.Translation.{Translation}
-use Rattle.tcsb.specs.declared.internalizer.Translated.{Translated}
+use Rattle.std.specs.Prelude.{Result, Ok, Err, Option, Some, None}
+use Rattle.refusal.specs.declared.Refusal.{Refusal}
 
 -- nothing is known of a sender that never sent
 abbrev pub no_translation : Translation
@@ -21,17 +21,16 @@ unfoldable pub place_of : List (List ℕ) → List ℕ → ℕ
 place_of [] t = 0
 place_of (x ∷ l) t = cond (same_bytes x t) 0 (suc (place_of l t))
 
+-- that place, or none
+abbrev pub member_at : List (List ℕ) → List ℕ → Option ℕ
+member_at l t = cond (ltb (place_of l t) (length l)) (Some (place_of l t)) None
+
 -- our places of the names that a sender lists: 7 where one is no member
-unfoldable pub translation_of : List (List ℕ) → List (List ℕ) → Whole Translation
+unfoldable pub translation_of : List (List ℕ) → List (List ℕ) → Result Translation Refusal
 translation_of names listed =
     cond (all (length listed) (λ p. ltb (place_of names (get_or listed p [])) (length names)))
-    (whole (record { count = length listed; places = tab 16 (λ p. cond (ltb p (length listed)) (place_of names (get_or listed p [])) 0) }))
-    (refused (no 7))
-
--- the answer as a struct: where the list is refused, the row is empty
-abbrev pub translated : Whole Translation → Translated
-translated (whole row) = record { outcome = outcome.Done; row = row }
-translated (refused k) = record { outcome = outcome.Refused k; row = no_translation }
+    (Ok (record { count = length listed; places = tab 16 (λ p. cond (ltb p (length listed)) (place_of names (get_or listed p [])) 0) }))
+    (Err (no 7))
 
 -- the row has all that the known one has, in its places
 unfoldable pub continues : Translation → Translation → Bool

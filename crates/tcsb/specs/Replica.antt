@@ -11,7 +11,7 @@ use Rattle.clock.specs.declared.matrix_clock.Columns.{Columns}
 use Rattle.clock.specs.Entries.{zero_entries, join_entries, at_most, same_entries}
 use Rattle.clock.specs.Matrix.{row_of, cell, zero_matrix, with_row_at, no_columns, raised_of, settled_cut}
 use Rattle.telegram.specs.Fields.{many}
-use Rattle.telegram.specs.Reading.{Whole, whole, refused, then, fair, texts, body, exception, event, batch, since}
+use Rattle.telegram.specs.Reading.{fair, texts, body, exception, event, batch, since}
 use Rattle.telegram.specs.Meaning.{EventBody, Heading, found, event_bytes, batch_bytes, since_bytes}
 use Rattle.telegram.specs.declared.body.Body.{Body}
 use Rattle.telegram.specs.declared.since.Exception.{Exception}
@@ -22,6 +22,8 @@ use Rattle.tcsb.specs.declared.internalizer.Translation.{Translation}
 use Rattle.tcsb.specs.declared.batch.Tally.{Tally}
 use Rattle.tcsb.specs.declared.receive.Verdict.{Verdict}
 use Rattle.tcsb.specs.declared.receive.Verdict.TheVariants.{Taken, Duplicate, Stale}
+use Rattle.std.specs.Prelude.{Result, Ok, Err, Option, Some, None}
+use Rattle.refusal.specs.Refusal.{then}
 
 -- ---- the state
 
@@ -52,17 +54,17 @@ pub data Call (A : Type 0) : Type 0 where
   not_done : Refusal → Call A
 
 -- its answer, and the state after it; a refused call leaves the state
-abbrev pub answer_of : {A : Type 0} → Call A → Whole A
-answer_of (done a st) = whole a
-answer_of (not_done k) = refused k
+abbrev pub answer_of : {A : Type 0} → Call A → Result A Refusal
+answer_of (done a st) = Ok a
+answer_of (not_done k) = Err k
 
 abbrev pub state_after : {A : Type 0} → State → Call A → State
 state_after st (done a st') = st'
 state_after st (not_done k) = st
 
-abbrev pub first : {A B : Type 0} → Whole A → (A → Call B) → Call B
-first (whole a) f = f a
-first (refused k) f = not_done k
+abbrev pub first : {A B : Type 0} → Result A Refusal → (A → Call B) → Call B
+first (Ok a) f = f a
+first (Err k) f = not_done k
 
 -- ---- founding: 4, 6, 9 for our own place
 
@@ -82,23 +84,23 @@ unfoldable pub counts_fit : List (List ℕ) → Bool
 counts_fit names =
     (leb 2 (length names) && leb (length names) 16) && all (length names) (λ i. leb 1 (length (get_or names i [])) && leb (length (get_or names i [])) 16)
 
-unfoldable pub found_of : List (List ℕ) → ℕ → Whole State
+unfoldable pub found_of : List (List ℕ) → ℕ → Result State Refusal
 found_of names place =
     cond (counts_fit names)
-    (cond (fair names) (cond (ltb place (length names)) (whole (zero_state names place)) (refused (no 9))) (refused (no 6)))
-    (refused (no 4))
+    (cond (fair names) (cond (ltb place (length names)) (Ok (zero_state names place)) (Err (no 9))) (Err (no 6)))
+    (Err (no 4))
 
 -- ---- what a telegram's list and sender must be
 
 -- 7; 8: list shorter than the sender's known row, or differing in it; 10: the sender is ourselves
-abbrev pub admitted_by : List (List ℕ) → List Translation → ℕ → List (List ℕ) → ℕ → Whole Translation
+abbrev pub admitted_by : List (List ℕ) → List Translation → ℕ → List (List ℕ) → ℕ → Result Translation Refusal
 admitted_by names known place listed sender =
     then (translation_of names listed) (λ row.
     cond (continues (get_or known (our_place row sender) no_translation) row)
-    (cond (eqb (our_place row sender) place) (refused (no 10)) (whole row))
-    (refused (no 8)))
+    (cond (eqb (our_place row sender) place) (Err (no 10)) (Ok row))
+    (Err (no 8)))
 
-unfoldable pub admitted : State → List (List ℕ) → ℕ → Whole Translation
+unfoldable pub admitted : State → List (List ℕ) → ℕ → Result Translation Refusal
 admitted st listed sender = admitted_by st.names st.known (own st) listed sender
 
 -- every accepted receive, batch or pull extends the sender's known row to the telegram's list
@@ -154,11 +156,11 @@ insert_all [] l = l
 insert_all (e ∷ es) l = insert_all es (insert_sorted e l)
 
 -- what is taken goes into inbox and outbox: 12 where more than 64 would wait, 13 where more than 256 would be in the outbox
-unfoldable pub recorded : State → List Event → Whole State
+unfoldable pub recorded : State → List Event → Result State Refusal
 recorded st es =
     cond (leb (length (insert_all (taken_of st es) st.inbox)) 64)
     (cond (leb (length (insert_all (taken_of st es) st.outbox)) 256)
-    (whole (record {
+    (Ok (record {
       names = st.names;
       matrix = st.matrix;
       frontier = st.frontier;
@@ -167,8 +169,8 @@ recorded st es =
       inbox = insert_all (taken_of st es) st.inbox;
       outbox = insert_all (taken_of st es) st.outbox;
     }))
-    (refused (no 13)))
-    (refused (no 12))
+    (Err (no 13)))
+    (Err (no 12))
 
 -- one event; the sender of an event telegram is its origin
 unfoldable pub receive_of : State → List ℕ → Call Verdict
@@ -332,14 +334,14 @@ abbrev pub deliver_of : State → ℕ → ℕ → Pick
 deliver_of st o n = named_ready st o n 0 st.inbox
 
 -- what is answered: the event, or none
-abbrev pub picked_of : Pick → List Event
-picked_of none = []
-picked_of (at_place i e) = e ∷ []
+abbrev pub picked_of : Pick → Option Event
+picked_of none = None
+picked_of (at_place i e) = Some e
 
-abbrev pub next_call : State → Call (List Event)
+abbrev pub next_call : State → Call (Option Event)
 next_call st = done (picked_of (next_of st)) (after_pick st (next_of st))
 
-abbrev pub deliver_call : State → ℕ → ℕ → Call (List Event)
+abbrev pub deliver_call : State → ℕ → ℕ → Call (Option Event)
 deliver_call st o n = done (picked_of (deliver_of st o n)) (after_pick st (deliver_of st o n))
 
 -- ---- frontier
@@ -366,8 +368,8 @@ frontier_call st =
     })
 
 -- what is answered: the frontier, or "same"
-abbrev pub stable_call : State → Call (List CausalFrontier)
-stable_call st = done (cond (is_settled st) [] ((frontier_call st).frontier ∷ [])) (frontier_call st)
+abbrev pub stable_call : State → Call (Option CausalFrontier)
+stable_call st = done (cond (is_settled st) None (Some (frontier_call st).frontier)) (frontier_call st)
 
 -- ---- since: our row, and the waiting ids as exceptions by origin place, then number
 

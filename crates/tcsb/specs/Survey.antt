@@ -1,10 +1,10 @@
 -- The steps of a batch: a walk over its bodies that decides every refusal and counts, and a second one that stores. Assumes nothing.
-use Rattle.std.specs.Prelude.{ℕ, ◌+◌, ◌≤◌, ◌≡◌, Bool, true, false, cond, ◌&&◌, ◌||◌, List, [], ◌∷◌, ◌++◌, map, length, set, eqb}
+use Rattle.std.specs.Prelude.{ℕ, ◌+◌, ◌≤◌, ◌≡◌, Bool, true, false, cond, ◌&&◌, ◌||◌, List, [], ◌∷◌, ◌++◌, map, length, get_or, set, eqb}
 use Rattle.refusal.specs.declared.Refusal.{Refusal}
-use Rattle.refusal.specs.declared.Outcome.TheVariants as outcome
-use Rattle.lists.specs.Lists.{at, tab, any}
-use Rattle.telegram.specs.Fields.{got, many}
-use Rattle.telegram.specs.Reading.{Whole, whole, refused, body, batch, texts}
+use Rattle.lists.specs.Lists.{tab, any}
+use Rattle.clock.specs.Version.{no_id, same_id}
+use Rattle.telegram.specs.Fields.{many}
+use Rattle.telegram.specs.Reading.{body, batch, texts}
 use Rattle.telegram.specs.declared.body.Body.{Body}
 use Rattle.telegram.specs.declared.batch.Batch.{Batch}
 use Rattle.store.specs.declared.event.Event.{Event}
@@ -18,37 +18,25 @@ use Rattle.tcsb.specs.declared.tcsb.Tcsb.{Tcsb}
 use Rattle.tcsb.specs.declared.receive.Verdict.{Verdict}
 use Rattle.tcsb.specs.declared.receive.Verdict.TheVariants.{Taken, Duplicate, Stale}
 use Rattle.tcsb.specs.declared.batch.Tally.{Tally}
-use Rattle.tcsb.specs.declared.batch.Counted.{Counted}
-use Rattle.tcsb.specs.declared.batch.Counted.TheVariants as counted
-use Rattle.tcsb.specs.declared.batch.BatchReceived.{BatchReceived}
 use Rattle.tcsb.specs.declared.batch.Ids.{Ids}
 use Rattle.tcsb.specs.declared.batch.Survey.{Survey}
-use Rattle.tcsb.specs.declared.batch.Surveyed.{Surveyed}
-
--- ---- answers
-
-abbrev pub not_counted : Tcsb → Refusal → BatchReceived
-not_counted t k = record { counted = counted.Refused k; tcsb = t }
-
-abbrev pub counted_told : Counted → Whole Tally
-counted_told (counted.Counts tally) = whole tally
-counted_told (counted.Refused k) = refused k
+use Rattle.std.specs.Prelude.{Result, Ok}
+use Rattle.leb128.specs.Leb128.{got}
 
 -- ---- ids
 
 abbrev pub no_ids : Ids
-no_ids = record { origins = tab 256 (λ k. 0); numbers = tab 256 (λ k. 0); count = 0 }
+no_ids = record { at = tab 256 (λ k. no_id); count = 0 }
 
 abbrev pub has_id : Ids → ℕ → ℕ → Bool
-has_id ids o n = any ids.count (λ k. eqb (at ids.origins k) o && eqb (at ids.numbers k) n)
+has_id ids o n = any ids.count (λ k. same_id (get_or ids.at k no_id) (record { idx = record { 0 = o }; seq = n }))
 
 abbrev pub with_id : Ids → ℕ → ℕ → Ids
-with_id ids o n = record { origins = set ids.origins ids.count o; numbers = set ids.numbers ids.count n; count = ids.count + 1 }
+with_id ids o n = record { at = set ids.at ids.count (record { idx = record { 0 = o }; seq = n }); count = ids.count + 1 }
 
--- the arrays have their places
+-- the array has its places
 pub record Long (ids : Ids) : Type 0 where
-  pub origins : length ids.origins ≡ 256
-  pub numbers : length ids.numbers ≡ 256
+  pub places : length ids.at ≡ 256
 
 -- some event of a list has an id
 unfoldable pub has_in : ℕ → ℕ → List Event → Bool
@@ -71,9 +59,6 @@ no_survey = record {
   waiting = 0;
   kept = 0;
 }
-
-abbrev pub not_surveyed : Refusal → Surveyed
-not_surveyed k = record { outcome = outcome.Refused k; survey = no_survey }
 
 -- no count is above n
 pub record Few (n : ℕ) (v : Survey) : Type 0 where
@@ -111,9 +96,9 @@ pub record SurveysMore (p q : List ℕ) (t : Tcsb) (row : Translation) (s : List
   pub more : (list : List ℕ) (bs : List Body) → row.count ≤ 16 → Sorted (events p t.inbox.order) → Sorted (events q t.outbox.order)
       → Surveys (view t list p q) row s bs v → Surveys (view t list p q) row s (bs ++ (b ∷ [])) v'
 
-pub record SurveysAll (p q : List ℕ) (t : Tcsb) (row : Translation) (s : List ℕ) (at names count : ℕ) (r : Surveyed) : Type 0 where
+pub record SurveysAll (p q : List ℕ) (t : Tcsb) (row : Translation) (s : List ℕ) (at names count : ℕ) (r : Result Survey Refusal) : Type 0 where
   pub all : (list : List ℕ) (bs : List Body) (end : ℕ) → row.count ≤ 16 → names ≤ 16 → Sorted (events p t.inbox.order) → Sorted (events q t.outbox.order)
-      → many count (body names s) at ≡ got bs end → (r.outcome ≡ outcome.Done) × Surveys (view t list p q) row s bs r.survey
+      → many count (body names s) at ≡ got bs end → (v : Survey) × ((r ≡ Ok v) × Surveys (view t list p q) row s bs v)
 
 -- ---- storing
 
@@ -136,4 +121,4 @@ pub record RecordsAll (p p' q q' : List ℕ) (t : Tcsb) (row : Translation) (s :
 
 -- ---- a batch that was read, and its sender's row
 abbrev pub Admits : List ℕ → List ℕ → List ℕ → Tcsb → List ℕ → Batch → Translation → Type 0
-Admits list p q t s b row = (batch s ≡ whole b) × (admitted (view t list p q) (texts s b.head.names) b.head.sender.0 ≡ whole row)
+Admits list p q t s b row = (batch s ≡ Ok b) × (admitted (view t list p q) (texts s b.head.names) b.head.sender.0 ≡ Ok row)

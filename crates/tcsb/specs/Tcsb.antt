@@ -2,14 +2,11 @@
 -- a prime marks what a call leaves. Assumes nothing.
 use Rattle.std.specs.Prelude.{ℕ, ◌+◌, ◌≡◌, Bool, true, false, cond, ◌&&◌, List, length, get_or, set, leb}
 use Rattle.refusal.specs.declared.Refusal.{Refusal}
-use Rattle.refusal.specs.declared.Outcome.TheVariants as outcome
-use Rattle.refusal.specs.Refusal.{no}
+use Rattle.refusal.specs.Refusal.{no, then}
 use Rattle.lists.specs.Lists.{tab, all}
-use Rattle.leb128.specs.declared.Written.{Written}
-use Rattle.leb128.specs.declared.Written.TheVariants as written
-use Rattle.clock.specs.Matrix.{new_matrix, no_columns}
-use Rattle.clock.specs.Frontier.{new_frontier}
-use Rattle.telegram.specs.Reading.{Whole, whole, refused, nowhere, no_names, texts}
+use Rattle.clock.specs.Entries.{zero_entries}
+use Rattle.clock.specs.Matrix.{zero_matrix, no_columns}
+use Rattle.telegram.specs.Reading.{nowhere, texts}
 use Rattle.telegram.specs.Writing.{list_fits, Wrote}
 use Rattle.telegram.specs.declared.list.Names.{Names}
 use Rattle.store.specs.Orders.{no_slots, free_slots, events}
@@ -18,9 +15,9 @@ use Rattle.tcsb.specs.Internalizer.{no_translation}
 use Rattle.tcsb.specs.Replica.{State, Call, answer_of, state_after, lent, found_of}
 use Rattle.tcsb.specs.WellFormed.{WellFormed}
 use Rattle.tcsb.specs.declared.internalizer.Translation.{Translation}
-use Rattle.tcsb.specs.declared.tcsb.Store.{Store}
+use Rattle.store.specs.declared.order.Store.{Store}
 use Rattle.tcsb.specs.declared.tcsb.Tcsb.{Tcsb}
-use Rattle.tcsb.specs.declared.tcsb.Founded.{Founded}
+use Rattle.std.specs.Prelude.{Result, Ok, Err}
 
 -- ---- the struct
 
@@ -34,8 +31,8 @@ empty_store n = record { order = no_slots; free = free_slots n }
 abbrev pub zero_tcsb : Names → ℕ → Tcsb
 zero_tcsb names place = record {
   names = names;
-  matrix = (new_matrix place names.count).matrix;
-  frontier = (new_frontier names.count).frontier;
+  matrix = zero_matrix place names.count;
+  frontier = record { members = names.count; row = record { entries = zero_entries } };
   raised = record { raised = no_columns };
   known = tab 16 (λ i. no_translation);
   inbox = empty_store 64;
@@ -99,56 +96,49 @@ abbrev pub inside : List ℕ → Names → Bool
 inside list names = all names.count (λ i. leb ((get_or names.parts i nowhere).start + (get_or names.parts i nowhere).len) (length list))
 
 -- 4 where the words are too short or a name is no part of the list
-unfoldable pub founding_of : List ℕ → Names → ℕ → List ℕ → List ℕ → Whole State
+unfoldable pub founding_of : List ℕ → Names → ℕ → List ℕ → List ℕ → Result State Refusal
 founding_of list names place p q =
-    cond (has_words (length p) (length q) && inside list names) (found_of (texts list names) place) (refused (no 4))
+    cond (has_words (length p) (length q) && inside list names) (found_of (texts list names) place) (Err (no 4))
 
-abbrev pub not_founded : Refusal → Founded
-not_founded k = record { outcome = outcome.Refused k; tcsb = zero_tcsb no_names 0 }
-
-abbrev pub founded_by : Names → ℕ → Whole State → Founded
-founded_by names place (whole st) = record { outcome = outcome.Done; tcsb = zero_tcsb names place }
-founded_by names place (refused k) = not_founded k
-
-pub record Founds (list : List ℕ) (names : Names) (place : ℕ) (p q : List ℕ) (r : Founded) : Type 0 where
-  pub answers : r ≡ founded_by names place (founding_of list names place p q)
-  pub leaves : (st : State) → founding_of list names place p q ≡ whole st → view r.tcsb list p q ≡ st
-  pub good : (st : State) → founding_of list names place p q ≡ whole st → Good r.tcsb list p q
+pub record Founds (list : List ℕ) (names : Names) (place : ℕ) (p q : List ℕ) (r : Result Tcsb Refusal) : Type 0 where
+  pub answers : r ≡ then (founding_of list names place p q) (λ st. Ok (zero_tcsb names place))
+  pub leaves : (t : Tcsb) → r ≡ Ok t → founding_of list names place p q ≡ Ok (view t list p q)
+  pub good : (t : Tcsb) → r ≡ Ok t → Good t list p q
 
 -- ---- the calls
 
 -- a call gives what its definition says, and keeps what a replica satisfies; where it is refused, nothing changed; 4 before all others where
 -- the words that are lent are too short
-pub record Does {A : Type 0} (list p p' q q' : List ℕ) (words : Bool) (t t' : Tcsb) (answer : Whole A) (want : State → Call A) : Type 0 where
+pub record Does {A : Type 0} (list p p' q q' : List ℕ) (words : Bool) (t t' : Tcsb) (answer : Result A Refusal) (want : State → Call A) : Type 0 where
   pub answers : Good t list p q → answer ≡ answer_of (want (view t list p q))
   pub leaves : Good t list p q → view t' list p' q' ≡ state_after (view t list p q) (want (view t list p q))
   pub good : Good t list p q → Good t' list p' q'
-  pub kept : (k : Refusal) → answer ≡ refused k → (t' ≡ t) × ((p' ≡ p) × (q' ≡ q))
-  pub short : words ≡ false → answer ≡ refused (no 4)
+  pub kept : (k : Refusal) → answer ≡ Err k → (t' ≡ t) × ((p' ≡ p) × (q' ≡ q))
+  pub short : words ≡ false → answer ≡ Err (no 4)
 
 -- the same of a part of a call that goes on from a fact
-pub record DoesIf (fact : Type 0) {A : Type 0} (list p p' q q' : List ℕ) (t t' : Tcsb) (answer : Whole A) (want : State → Call A) : Type 0 where
+pub record DoesIf (fact : Type 0) {A : Type 0} (list p p' q q' : List ℕ) (t t' : Tcsb) (answer : Result A Refusal) (want : State → Call A) : Type 0 where
   pub answers : fact → Good t list p q → answer ≡ answer_of (want (view t list p q))
   pub leaves : fact → Good t list p q → view t' list p' q' ≡ state_after (view t list p q) (want (view t list p q))
   pub sound : fact → Good t list p q → Sound t' list p' q'
-  pub kept : (k : Refusal) → answer ≡ refused k → (t' ≡ t) × ((p' ≡ p) × (q' ≡ q))
+  pub kept : (k : Refusal) → answer ≡ Err k → (t' ≡ t) × ((p' ≡ p) × (q' ≡ q))
 
 -- a call that writes its answer into a lent buffer: the answer's bytes, and behind them what stood there; 15 where it is too short
-pub record Writes (list p p' q q' out out' : List ℕ) (words : Bool) (t t' : Tcsb) (answer : Written) (want : State → Call (List ℕ)) : Type 0 where
+pub record Writes (list p p' q q' out out' : List ℕ) (words : Bool) (t t' : Tcsb) (answer : Result ℕ Refusal) (want : State → Call (List ℕ)) : Type 0 where
   pub wrote : Good t list p q → Wrote out out' 0 0 (answer_of (want (view t list p q))) answer
   pub leaves : Good t list p q → view t' list p' q' ≡ state_after (view t list p q) (lent out (want (view t list p q)))
   pub good : Good t list p q → Good t' list p' q'
-  pub kept : (k : Refusal) → answer ≡ written.Refused k → (t' ≡ t) × ((p' ≡ p) × ((q' ≡ q) × (out' ≡ out)))
-  pub short : words ≡ false → answer ≡ written.Refused (no 4)
+  pub kept : (k : Refusal) → answer ≡ Err k → (t' ≡ t) × ((p' ≡ p) × ((q' ≡ q) × (out' ≡ out)))
+  pub short : words ≡ false → answer ≡ Err (no 4)
 
-pub record WritesIf (fact : Type 0) (list p p' q q' out out' : List ℕ) (t t' : Tcsb) (answer : Written) (want : State → Call (List ℕ)) : Type 0 where
+pub record WritesIf (fact : Type 0) (list p p' q q' out out' : List ℕ) (t t' : Tcsb) (answer : Result ℕ Refusal) (want : State → Call (List ℕ)) : Type 0 where
   pub wrote : fact → Good t list p q → Wrote out out' 0 0 (answer_of (want (view t list p q))) answer
   pub leaves : fact → Good t list p q → view t' list p' q' ≡ state_after (view t list p q) (lent out (want (view t list p q)))
   pub sound : fact → Good t list p q → Sound t' list p' q'
-  pub kept : (k : Refusal) → answer ≡ written.Refused k → (t' ≡ t) × ((p' ≡ p) × ((q' ≡ q) × (out' ≡ out)))
+  pub kept : (k : Refusal) → answer ≡ Err k → (t' ≡ t) × ((p' ≡ p) × ((q' ≡ q) × (out' ≡ out)))
 
 -- a call that only writes
-pub record WritesOnly (list p q out out' : List ℕ) (words : Bool) (t : Tcsb) (answer : Written) (want : State → List ℕ) : Type 0 where
-  pub wrote : Good t list p q → Wrote out out' 0 0 (whole (want (view t list p q))) answer
-  pub kept : (k : Refusal) → answer ≡ written.Refused k → out' ≡ out
-  pub short : words ≡ false → answer ≡ written.Refused (no 4)
+pub record WritesOnly (list p q out out' : List ℕ) (words : Bool) (t : Tcsb) (answer : Result ℕ Refusal) (want : State → List ℕ) : Type 0 where
+  pub wrote : Good t list p q → Wrote out out' 0 0 (Ok (want (view t list p q))) answer
+  pub kept : (k : Refusal) → answer ≡ Err k → out' ≡ out
+  pub short : words ≡ false → answer ≡ Err (no 4)

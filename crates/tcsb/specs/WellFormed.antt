@@ -2,7 +2,6 @@
 use Rattle.std.specs.Prelude.{ℕ, ◌<◌, ◌≤◌, ◌≡◌, true, List, length, get_or}
 use Rattle.lists.specs.Lists.{at}
 use Rattle.leb128.specs.Leb128.{last_number}
-use Rattle.clock.specs.declared.id.Tested.TheVariants as tested
 use Rattle.clock.specs.Matrix.{row_of, cell, valid_of}
 use Rattle.telegram.specs.Reading.{fair}
 use Rattle.store.specs.declared.event.Event.{Event}
@@ -10,6 +9,7 @@ use Rattle.store.specs.Orders.{In, Sorted}
 use Rattle.tcsb.specs.Internalizer.{no_translation, our_place}
 use Rattle.tcsb.specs.Replica.{State, members, own, cut, counts_fit}
 use Rattle.tcsb.specs.declared.internalizer.Translation.{Translation}
+use Rattle.std.specs.Prelude.{Ok}
 
 -- sixteen entries, none above the last number
 pub record GoodEntries (l : List ℕ) : Type 0 where
@@ -53,7 +53,7 @@ pub record WellFormed (st : State) : Type 0 where
   pub rows : length st.matrix.rows ≡ 16
   pub entries : (i : ℕ) → GoodEntries (row_of st.matrix.rows i)
   pub unlisted : (i j : ℕ) → members st ≤ j → cell st.matrix.rows i j ≡ 0
-  pub valid : valid_of st.matrix ≡ tested.Is true
+  pub valid : valid_of st.matrix ≡ Ok true
   -- the frontier is below every row
   pub one_list : st.frontier.members ≡ members st
   pub cuts : GoodEntries (cut st)

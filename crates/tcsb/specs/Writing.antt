@@ -1,23 +1,18 @@
 -- The steps of what the replica writes: events out of their slots, and which of them. Assumes nothing.
-use Rattle.std.specs.Prelude.{ℕ, ◌+◌, ◌<◌, ◌≤◌, ◌≡◌, Bool, List, length, set}
+use Rattle.std.specs.Prelude.{ℕ, ◌<◌, ◌≤◌, ◌≡◌, Bool, List, length, Result, Ok, Err}
 use Rattle.refusal.specs.declared.Refusal.{Refusal}
 use Rattle.lists.specs.Lists.{joined}
-use Rattle.leb128.specs.declared.Written.{Written}
-use Rattle.leb128.specs.declared.Written.TheVariants as written
 use Rattle.clock.specs.Matrix.{row_of}
-use Rattle.telegram.specs.Fields.{got, many}
-use Rattle.telegram.specs.Reading.{Whole, whole, exception, since, texts}
+use Rattle.telegram.specs.Fields.{many}
+use Rattle.telegram.specs.Reading.{exception, since, texts}
 use Rattle.telegram.specs.Meaning.{body_bytes, exception_bytes}
-use Rattle.telegram.specs.Writing.{body_spelt, Room, Put, Wrote}
+use Rattle.telegram.specs.Writing.{Room, Put, Wrote}
 use Rattle.telegram.specs.declared.body.Body.{Body}
-use Rattle.telegram.specs.declared.field.Width.{Width}
-use Rattle.telegram.specs.declared.field.Width.TheVariants as width
 use Rattle.telegram.specs.declared.head.Head.{Head}
 use Rattle.telegram.specs.declared.since.Exception.{Exception}
 use Rattle.telegram.specs.declared.since.Since.{Since}
 use Rattle.store.specs.declared.event.Event.{Event}
 use Rattle.store.specs.declared.order.Slots.{Slots}
-use Rattle.store.specs.Words.{event_at}
 use Rattle.store.specs.Orders.{In, events, keep}
 use Rattle.tcsb.specs.Replica.{admitted, written_body, batch_written, exception_of, is_excepted, wanted_unless, flushed, frontier_call}
 use Rattle.tcsb.specs.Tcsb.{view, Good}
@@ -25,11 +20,7 @@ use Rattle.tcsb.specs.Survey.{has_id}
 use Rattle.tcsb.specs.declared.internalizer.Translation.{Translation}
 use Rattle.tcsb.specs.declared.tcsb.Tcsb.{Tcsb}
 use Rattle.tcsb.specs.declared.batch.Ids.{Ids}
-use Rattle.tcsb.specs.declared.writing.Sent.{Sent}
-use Rattle.tcsb.specs.declared.writing.AllDelivered.{AllDelivered}
-
-abbrev pub not_sent : Tcsb → Refusal → Sent
-not_sent t k = record { written = written.Refused k; tcsb = t }
+use Rattle.leb128.specs.Leb128.{got}
 
 -- ---- events as bodies
 
@@ -41,12 +32,6 @@ event_body e = record {
   operation = record { start = 0; len = e.len };
 }
 
-abbrev pub slot_spelt : List ℕ → ℕ → ℕ → Whole (List ℕ)
-slot_spelt p slot n = body_spelt n (event_at p slot).operation (event_body (event_at p slot))
-
-abbrev pub exception_at : List ℕ → ℕ → Exception
-exception_at p slot = exception_of (event_at p slot)
-
 -- all members in our own order, our place, our row
 abbrev pub head_of : Tcsb → Head
 head_of t = record { names = t.names; sender = record { 0 = t.matrix.origin.0 }; entries = row_of t.matrix.rows t.matrix.origin.0 }
@@ -56,12 +41,16 @@ pub record Writable (n : ℕ) (e : Event) : Type 0 where
   pub listed : e.origin.0 < n
   pub short : e.len ≤ 32
 
--- the bodies of the events, one behind the other; their ids as exceptions
-abbrev pub bodies_bytes : ℕ → List Event → List ℕ
-bodies_bytes n es = joined (λ e. body_bytes (written_body n e)) es
+-- what an event is written as behind a list of n names: a body of a batch, an exception of a since
+abbrev pub body_spelt_at : ℕ → Event → List ℕ
+body_spelt_at n e = body_bytes (written_body n e)
 
-abbrev pub ids_bytes : List Event → List ℕ
-ids_bytes es = joined (λ e. exception_bytes (exception_of e)) es
+abbrev pub exception_spelt_at : ℕ → Event → List ℕ
+exception_spelt_at n e = exception_bytes (exception_of e)
+
+-- events one behind the other
+abbrev pub items_bytes : (ℕ → Event → List ℕ) → ℕ → List Event → List ℕ
+items_bytes spelt n es = joined (spelt n) es
 
 -- each event of some slots can be written
 pub record AllWritable (p : List ℕ) (slots : Slots) (n : ℕ) : Type 0 where
@@ -69,37 +58,25 @@ pub record AllWritable (p : List ℕ) (slots : Slots) (n : ℕ) : Type 0 where
   pub room : slots.count ≤ 256
   pub each : (e : Event) → In e (events p slots) → Writable n e
 
-pub record BodiesWidth (p : List ℕ) (slots : Slots) (n : ℕ) (r : Width) : Type 0 where
+pub record Measures (spelt : ℕ → Event → List ℕ) (e : Event) (n : ℕ) (r : Result ℕ Refusal) : Type 0 where
+  pub is : n ≤ 16 → Writable n e → r ≡ Ok (length (spelt n e))
+  pub few : (w : ℕ) → r ≡ Ok w → w ≤ 311
+
+pub record PutsItem (spelt : ℕ → Event → List ℕ) (out out' : List ℕ) (at : ℕ) (e : Event) (n next : ℕ) : Type 0 where
+  pub puts : n ≤ 16 → Writable n e → Room out at (spelt n e) → Put out out' at (spelt n e) next
+
+pub record ItemsWidth (spelt : ℕ → Event → List ℕ) (p : List ℕ) (slots : Slots) (n : ℕ) (r : Result ℕ Refusal) : Type 0 where
   pub long : length slots.at ≡ 256
-  pub is : AllWritable p slots n → r ≡ width.Is (length (bodies_bytes n (events p slots)))
+  pub is : AllWritable p slots n → r ≡ Ok (length (items_bytes spelt n (events p slots)))
 
-pub record PutsSlot (out out' : List ℕ) (at : ℕ) (p : List ℕ) (slot n next : ℕ) : Type 0 where
-  pub puts : n ≤ 16 → Writable n (event_at p slot) → Room out at (body_bytes (written_body n (event_at p slot)))
-      → Put out out' at (body_bytes (written_body n (event_at p slot))) next
-
-pub record PutsBodies (out out' : List ℕ) (at : ℕ) (p : List ℕ) (slots : Slots) (n next : ℕ) : Type 0 where
-  pub puts : AllWritable p slots n → Room out at (bodies_bytes n (events p slots)) → Put out out' at (bodies_bytes n (events p slots)) next
-
-pub record ExceptionsWidth (p : List ℕ) (slots : Slots) (n : ℕ) (r : Width) : Type 0 where
-  pub long : length slots.at ≡ 256
-  pub is : AllWritable p slots n → r ≡ width.Is (length (ids_bytes (events p slots)))
-
-pub record PutsException (out out' : List ℕ) (at : ℕ) (p : List ℕ) (slot n next : ℕ) : Type 0 where
-  pub puts : n ≤ 16 → Writable n (event_at p slot) → Room out at (exception_bytes (exception_at p slot)) → Put out out' at (exception_bytes (exception_at p slot)) next
-
-pub record PutsExceptions (out out' : List ℕ) (at : ℕ) (p : List ℕ) (slots : Slots) (n next : ℕ) : Type 0 where
-  pub puts : AllWritable p slots n → Room out at (ids_bytes (events p slots)) → Put out out' at (ids_bytes (events p slots)) next
+pub record PutsItems (spelt : ℕ → Event → List ℕ) (out out' : List ℕ) (at : ℕ) (p : List ℕ) (slots : Slots) (n next : ℕ) : Type 0 where
+  pub puts : AllWritable p slots n → Room out at (items_bytes spelt n (events p slots)) → Put out out' at (items_bytes spelt n (events p slots)) next
 
 -- a batch of the events of some slots, with our row
-pub record WritesBatch (list words : List ℕ) (slots : Slots) (out out' : List ℕ) (t : Tcsb) (answer : Written) : Type 0 where
+pub record WritesBatch (list words : List ℕ) (slots : Slots) (out out' : List ℕ) (t : Tcsb) (answer : Result ℕ Refusal) : Type 0 where
   pub wrote : (p q : List ℕ) → Good t list p q → AllWritable words slots t.matrix.members
-      → Wrote out out' 0 0 (whole (batch_written (view t list p q) (events words slots))) answer
-  pub kept : (k : Refusal) → answer ≡ written.Refused k → out' ≡ out
-
--- ---- slots one behind the other
-
-abbrev pub pushed : Slots → ℕ → Slots
-pushed slots x = record { at = set slots.at slots.count x; count = slots.count + 1 }
+      → Wrote out out' 0 0 (Ok (batch_written (view t list p q) (events words slots))) answer
+  pub kept : (k : Refusal) → answer ≡ Err k → out' ≡ out
 
 -- ---- pull
 
@@ -118,14 +95,14 @@ pub record ReadsIds (s : List ℕ) (at names count : ℕ) (row : Translation) (r
 
 -- a since that was read, and its sender's row
 abbrev pub Asks : List ℕ → List ℕ → List ℕ → Tcsb → List ℕ → Since → Translation → Type 0
-Asks list p q t s r row = (since s ≡ whole r) × (admitted (view t list p q) (texts s r.head.names) r.head.sender.0 ≡ whole row)
+Asks list p q t s r row = (since s ≡ Ok r) × (admitted (view t list p q) (texts s r.head.names) r.head.sender.0 ≡ Ok row)
 
 -- ---- flush
 
-pub record DeliversAll (p : List ℕ) (t : Tcsb) (r : AllDelivered) : Type 0 where
-  pub few : r.slots.count ≤ 64
+pub record DeliversAll (p : List ℕ) (t t' : Tcsb) (slots : Slots) : Type 0 where
+  pub few : slots.count ≤ 64
   pub all : (list q : List ℕ) → Good t list p q
-      → flushed (length (events p t.inbox.order)) (view t list p q) ≡ record { events = events p r.slots; state = frontier_call (view r.tcsb list p q) }
-  pub good : (list q : List ℕ) → Good t list p q → Good r.tcsb list p q
+      → flushed (length (events p t.inbox.order)) (view t list p q) ≡ record { events = events p slots; state = frontier_call (view t' list p q) }
+  pub good : (list q : List ℕ) → Good t list p q → Good t' list p q
   -- what is delivered stood in the inbox
-  pub from : (list q : List ℕ) → Good t list p q → (e : Event) → In e (events p r.slots) → In e (events p t.inbox.order)
+  pub from : (list q : List ℕ) → Good t list p q → (e : Event) → In e (events p slots) → In e (events p t.inbox.order)

@@ -2,13 +2,13 @@
 ghost use Rattle.std.specs.Prelude.{◌≡◌, ℕ, ◌<◌, ◌≤◌, List, length};
 ghost use Rattle.tcsb.specs.Replica.{batch_of};
 ghost use Rattle.tcsb.specs.Tcsb.{has_words, Does, DoesIf};
-ghost use Rattle.tcsb.specs.Survey.{no_ids, has_id, with_id, raised_tally, no_survey, not_surveyed, not_counted, counted_told, Long, Few, noted_by, SurveysMore, SurveysAll, RecordsBody, RecordsAll, Admits};
+ghost use Rattle.tcsb.specs.Survey.{no_ids, has_id, with_id, raised_tally, no_survey, Long, Few, noted_by, SurveysMore, SurveysAll, RecordsBody, RecordsAll, Admits};
 
-use crate::internalizer::{Translation, admit, event_from, our_place};
-use crate::receive::{Verdict, is_misnumbered, judge, new_in, room_for};
+use crate::internalizer::Translation;
+use crate::receive::{Verdict, is_misnumbered, new_in, room_for};
 use crate::tcsb::{Tcsb, has_words};
-use clock::id::ReplicaIdx;
-use refusal::{Outcome, Refusal};
+use clock::id::EventId;
+use refusal::Refusal;
 use store::event::Event;
 use telegram::batch::{Batch, read_batch};
 use telegram::body::{Body, read_body};
@@ -17,37 +17,24 @@ use telegram::body::{Body, read_body};
 const IDS: usize = 256;
 
 // How many events of a batch were taken, duplicate and stale.
-#[derive(Clone, Copy)]
+#[derive(Clone, Copy, Debug, Default, PartialEq, Eq)]
 pub struct Tally {
     pub taken: usize,
     pub duplicate: usize,
     pub stale: usize,
 }
 
-// What a batch answers.
-#[derive(Clone, Copy)]
-pub enum Counted {
-    Counts(Tally),
-    Refused(Refusal),
-}
-
-#[derive(Clone, Copy)]
-pub struct BatchReceived {
-    pub counted: Counted,
-    pub tcsb: Tcsb,
-}
-
 // The ids of a batch's events that are to be taken, each once.
-#[derive(Clone, Copy)]
+// kept: an array and its count: no heap, fixed memory, and plain types can be copied, which no library type with a length of its own can
+#[derive(Clone, Copy, Debug)]
 pub struct Ids {
-    pub(crate) origins: [usize; 256],
-    pub(crate) numbers: [u32; 256],
+    pub(crate) at: [EventId; IDS],
     pub(crate) count: usize,
 }
 
 // What a walk over a batch's bodies found: whether an origin is ourselves, whether an event is numbered wrong, the tally, the ids to be taken,
 // and how many of those are new to the inbox and to the outbox.
-#[derive(Clone, Copy)]
+#[derive(Clone, Copy, Debug)]
 pub struct Survey {
     pub(crate) own: bool,
     pub(crate) misnumbered: bool,
@@ -57,361 +44,209 @@ pub struct Survey {
     pub(crate) kept: usize,
 }
 
-#[derive(Clone, Copy)]
-pub struct Surveyed {
-    pub(crate) outcome: Outcome,
-    pub(crate) survey: Survey,
-}
-
 impl Ids {
     // No ids.
     pub(crate) fn none() -> Ids
         ensures { result ≡ no_ids }
     {
         Ids {
-            origins: [0; 256],
-            numbers: [0; 256],
+            at: [EventId::default(); IDS],
             count: 0,
         }
     }
 
     // Whether an id is among them.
-    pub(crate) fn has(self, origin: ReplicaIdx, number: u32) -> bool
-        ensures { (self.count ≤ 256 → result ≡ has_id self origin.0 number) × Long self }
+    pub(crate) fn has(&self, id: EventId) -> bool
+        requires { self.now.count ≤ 256 }
+        ensures { (result ≡ has_id self.now id.idx.0 id.seq) × Long self.now }
     {
-        let mut k: usize = 0;
-        while k < IDS {
-            if self.count <= k {
-                return false;
-            }
-            if self.origins[k] == origin.0 {
-                if self.numbers[k] == number {
-                    return true;
-                }
-            }
-            k += 1;
-        }
-        false
+        self.at[..self.count].contains(&id)
     }
 
     // One more id.
-    pub(crate) fn with(self, origin: ReplicaIdx, number: u32) -> Ids
-        requires { self.count < 256 }
-        ensures { result ≡ with_id self origin.0 number }
+    pub(crate) fn push(&mut self, id: EventId)
+        requires { self.old.count < 256 }
+        ensures { self.new ≡ with_id self.old id.idx.0 id.seq }
     {
-        let mut r = self;
-        let k = self.count;
-        let place = origin.0;
-        r.origins[k] = place;
-        r.numbers[k] = number;
-        r.count = k + 1;
-        r
+        self.at[self.count] = id;
+        self.count += 1;
     }
 }
 
-// A verdict counted.
-fn raised(tally: Tally, verdict: Verdict) -> Tally
-    requires { (tally.taken ≤ 256) × (tally.duplicate ≤ 256) × (tally.stale ≤ 256) }
-    ensures { result ≡ raised_tally tally verdict }
-{
-    let mut r = tally;
-    match verdict {
-        Verdict::Taken => {
-            r.taken += 1;
-        }
-        Verdict::Duplicate => {
-            r.duplicate += 1;
-        }
-        Verdict::Stale => {
-            r.stale += 1;
+impl Tally {
+    // One more verdict.
+    fn count(&mut self, verdict: Verdict)
+        requires { (self.old.taken ≤ 256) × (self.old.duplicate ≤ 256) × (self.old.stale ≤ 256) }
+        ensures { self.new ≡ raised_tally self.old verdict }
+    {
+        match verdict {
+            Verdict::Taken => self.taken += 1,
+            Verdict::Duplicate => self.duplicate += 1,
+            Verdict::Stale => self.stale += 1,
         }
     }
-    r
 }
 
-fn no_survey() -> Survey
-    ensures { result ≡ no_survey }
-{
-    let tally = Tally {
-        taken: 0,
-        duplicate: 0,
-        stale: 0,
-    };
-    let ids = Ids::none();
-    Survey {
-        own: false,
-        misnumbered: false,
-        tally,
-        ids,
-        waiting: 0,
-        kept: 0,
-    }
-}
-
-fn not_surveyed(why: Refusal) -> Surveyed
-    ensures { result ≡ not_surveyed why }
-{
-    let survey = no_survey();
-    Surveyed {
-        outcome: Outcome::Refused(why),
-        survey,
-    }
-}
-
-fn not_counted(tcsb: Tcsb, why: Refusal) -> BatchReceived
-    ensures { result ≡ not_counted tcsb why }
-{
-    BatchReceived {
-        counted: Counted::Refused(why),
-        tcsb,
+impl Survey {
+    // What is found before the first body.
+    fn none() -> Survey
+        ensures { result ≡ no_survey }
+    {
+        Survey {
+            own: false,
+            misnumbered: false,
+            tally: Tally::default(),
+            ids: Ids::none(),
+            waiting: 0,
+            kept: 0,
+        }
     }
 }
 
 impl Tcsb {
     // The survey with the id of an event that is to be taken.
-    fn note(self, inbox: &[u32], outbox: &[u32], survey: Survey, e: Event) -> Survey
-        requires { Few 255 survey }
-        ensures { (result ≡ noted_by inbox.now outbox.now self survey e) × Long survey.ids }
+    fn note(&self, inbox: &[u32], outbox: &[u32], survey: &mut Survey, event: &Event)
+        requires { (survey.old.ids.count ≤ 255) × (survey.old.waiting ≤ 255) × (survey.old.kept ≤ 255) }
+        ensures { (survey.new ≡ noted_by inbox.now outbox.now self.now survey.old event.now) × Long survey.old.ids }
     {
-        let ids = survey.ids;
-        if ids.has(e.origin, e.number) {
-            return survey;
+        let id = event.id();
+        if !survey.ids.has(id) {
+            survey.ids.push(id);
+            survey.waiting += new_in(&self.inbox, inbox, id);
+            survey.kept += new_in(&self.outbox, outbox, id);
         }
-        let mut r = survey;
-        let more = ids.with(e.origin, e.number);
-        let waiting = survey.waiting + new_in(self.inbox, inbox, e.origin, e.number);
-        let kept = survey.kept + new_in(self.outbox, outbox, e.origin, e.number);
-        r.ids = more;
-        r.waiting = waiting;
-        r.kept = kept;
-        r
     }
 
     // The survey with one body more.
     fn survey_body(
-        self,
+        &self,
         inbox: &[u32],
         outbox: &[u32],
-        row: Translation,
+        row: &Translation,
         s: &[u8],
-        survey: Survey,
-        body: Body,
-    ) -> Survey
-        requires { Few 255 survey }
-        ensures { SurveysMore inbox.now outbox.now self row s.now survey body result }
+        survey: &mut Survey,
+        body: &Body,
+    )
+        requires { Few 255 survey.old }
+        ensures { SurveysMore inbox.now outbox.now self.now row.now s.now survey.old body.now survey.new }
     {
-        let matrix = self.matrix;
-        let own = matrix.origin;
-        let place = our_place(row, body.place);
-        let ours = if survey.own { true } else { place.0 == own.0 };
-        let wrong = if survey.misnumbered {
-            true
-        } else {
-            is_misnumbered(body)
-        };
-        let e = event_from(row, s, body);
-        let verdict = judge(matrix, self.frontier, e);
-        let tally = raised(survey.tally, verdict);
-        let mut r = survey;
-        match verdict {
-            Verdict::Taken => {
-                r = self.note(inbox, outbox, survey, e);
-            }
-            Verdict::Duplicate => {}
-            Verdict::Stale => {}
+        survey.own |= row.our_place(body.place) == self.matrix.origin;
+        survey.misnumbered |= is_misnumbered(body);
+        let event = row.event_from(s, body);
+        let verdict = self.judge(&event);
+        survey.tally.count(verdict);
+        if verdict == Verdict::Taken {
+            self.note(inbox, outbox, survey, &event);
         }
-        r.own = ours;
-        r.misnumbered = wrong;
-        r.tally = tally;
-        r
     }
 
-    // A walk over so many bodies, behind a list of `names` names.
+    // A walk over the bodies of a batch.
     fn survey_bodies(
-        self,
+        &self,
         inbox: &[u32],
         outbox: &[u32],
-        row: Translation,
+        row: &Translation,
         s: &[u8],
-        at: usize,
-        names: usize,
-        count: usize,
-    ) -> Surveyed
-        requires { count ≤ 256 }
-        ensures { SurveysAll inbox.now outbox.now self row s.now at names count result }
+        batch: &Batch,
+    ) -> Result<Survey, Refusal>
+        requires { batch.now.count ≤ 256 }
+        ensures { SurveysAll inbox.now outbox.now self.now row.now s.now batch.now.bodies batch.now.head.names.count batch.now.count result }
     {
-        let mut survey = no_survey();
-        let mut next = at;
-        let mut i: usize = 0;
-        while i < count {
-            let b = read_body(s, next, names);
-            let told = b.outcome;
-            match told {
-                Outcome::Refused(why) => return not_surveyed(why),
-                Outcome::Done => {
-                    survey = self.survey_body(inbox, outbox, row, s, survey, b.body);
-                    next = b.next;
-                }
-            }
-            i += 1;
+        let mut survey = Survey::none();
+        let mut next = batch.bodies;
+        for _ in 0..batch.count {
+            let body = read_body(s, next, batch.head.names.count)?;
+            self.survey_body(inbox, outbox, row, s, &mut survey, &body.value);
+            next = body.next;
         }
-        Surveyed {
-            outcome: Outcome::Done,
-            survey,
-        }
+        Ok(survey)
     }
 
     // Stores a body's event if it is to be taken.
     fn record_body(
-        self,
+        &mut self,
         inbox: &mut [u32],
         outbox: &mut [u32],
-        row: Translation,
+        row: &Translation,
         s: &[u8],
-        body: Body,
-    ) -> Tcsb
-        ensures { RecordsBody inbox.old inbox.new outbox.old outbox.new self row s.now body result }
+        body: &Body,
+    )
+        ensures { RecordsBody inbox.old inbox.new outbox.old outbox.new self.old row.now s.now body.now self.new }
     {
-        let e = event_from(row, s, body);
-        match judge(self.matrix, self.frontier, e) {
-            Verdict::Taken => self.record(inbox, outbox, e),
-            Verdict::Duplicate => self,
-            Verdict::Stale => self,
+        let event = row.event_from(s, body);
+        if self.judge(&event) == Verdict::Taken {
+            self.record(inbox, outbox, event);
         }
     }
 
-    // Stores the events of so many bodies that are to be taken.
+    // Stores the events of a batch's bodies that are to be taken.
+    // kept: a walk of its own beside survey_bodies; one walk that takes a closure is no plainer, since the closure's contract would carry the
+    // invariant of each walk
     fn record_bodies(
-        self,
+        &mut self,
         inbox: &mut [u32],
         outbox: &mut [u32],
-        row: Translation,
+        row: &Translation,
         s: &[u8],
-        at: usize,
-        names: usize,
-        count: usize,
-    ) -> Tcsb
-        requires { count ≤ 256 }
-        ensures { RecordsAll inbox.old inbox.new outbox.old outbox.new self row s.now at names count result }
+        batch: &Batch,
+    )
+        ensures { RecordsAll inbox.old inbox.new outbox.old outbox.new self.old row.now s.now batch.now.bodies batch.now.head.names.count batch.now.count self.new }
     {
-        let mut r = self;
-        let mut next = at;
-        let mut i: usize = 0;
-        while i < count {
-            let b = read_body(s, next, names);
-            let told = b.outcome;
-            match told {
-                Outcome::Refused(_) => return r,
-                Outcome::Done => {
-                    r = r.record_body(inbox, outbox, row, s, b.body);
-                    next = b.next;
-                }
-            }
-            i += 1;
+        let mut next = batch.bodies;
+        for _ in 0..batch.count {
+            let Ok(body) = read_body(s, next, batch.head.names.count) else {
+                return;
+            };
+            self.record_body(inbox, outbox, row, s, &body.value);
+            next = body.next;
         }
-        r
     }
 
     // The bodies of a batch that was read, through its sender's row: 10, 11, 12, 13.
     fn receive_bodies(
-        self,
+        &mut self,
         inbox: &mut [u32],
         outbox: &mut [u32],
         s: &[u8],
-        batch: Batch,
+        batch: &Batch,
         row: Translation,
-    ) -> BatchReceived
-        requires { batch.count ≤ 256 }
-        ensures { (list : List ℕ) → DoesIf (Admits list inbox.old outbox.old self s.now batch row) list inbox.old inbox.new outbox.old outbox.new self result.tcsb (counted_told result.counted) (λ st. batch_of st s.now) }
+    ) -> Result<Tally, Refusal>
+        requires { batch.now.count ≤ 256 }
+        ensures { (list : List ℕ) → DoesIf (Admits list inbox.old outbox.old self.old s.now batch.now row) list inbox.old inbox.new outbox.old outbox.new self.old self.new result (λ st. batch_of st s.now) }
     {
-        let head = batch.head;
-        let names = head.names;
-        let v = self.survey_bodies(
-            inbox,
-            outbox,
-            row,
-            s,
-            batch.bodies,
-            names.count,
-            batch.count,
-        );
-        let told = v.outcome;
-        match told {
-            Outcome::Refused(why) => not_counted(self, why),
-            Outcome::Done => {
-                let survey = v.survey;
-                if survey.own {
-                    return not_counted(self, Refusal::FromOurselves);
-                }
-                if survey.misnumbered {
-                    return not_counted(self, Refusal::BadEventNumber);
-                }
-                let waiting = self.inbox.order;
-                let kept = self.outbox.order;
-                match room_for(waiting.count, survey.waiting, kept.count, survey.kept) {
-                    Outcome::Refused(why) => not_counted(self, why),
-                    Outcome::Done => {
-                        let r = self.record_bodies(
-                            inbox,
-                            outbox,
-                            row,
-                            s,
-                            batch.bodies,
-                            names.count,
-                            batch.count,
-                        );
-                        let tcsb = r.extend(our_place(row, head.sender), row);
-                        let tally = survey.tally;
-                        BatchReceived {
-                            counted: Counted::Counts(tally),
-                            tcsb,
-                        }
-                    }
-                }
-            }
+        let survey = self.survey_bodies(inbox, outbox, &row, s, batch)?;
+        if survey.own {
+            return Err(Refusal::FromOurselves);
         }
+        if survey.misnumbered {
+            return Err(Refusal::BadEventNumber);
+        }
+        room_for(
+            self.inbox.order.count,
+            survey.waiting,
+            self.outbox.order.count,
+            survey.kept,
+        )?;
+        self.record_bodies(inbox, outbox, &row, s, batch);
+        self.extend(row.our_place(batch.head.sender), row);
+        Ok(survey.tally)
     }
 
     // Receives a batch telegram: the same for each event in order; the batch's own version is not used.
     pub fn receive_batch(
-        self,
+        &mut self,
         list: &[u8],
         inbox: &mut [u32],
         outbox: &mut [u32],
         s: &[u8],
-    ) -> BatchReceived
-        ensures { Does list.now inbox.old inbox.new outbox.old outbox.new (has_words (length inbox.old) (length outbox.old)) self result.tcsb (counted_told result.counted) (λ st. batch_of st s.now) }
+    ) -> Result<Tally, Refusal>
+        ensures { Does list.now inbox.old inbox.new outbox.old outbox.new (has_words (length inbox.old) (length outbox.old)) self.old self.new result (λ st. batch_of st s.now) }
     {
         if !has_words(inbox.len(), outbox.len()) {
-            return not_counted(self, Refusal::OutOfRange);
+            return Err(Refusal::OutOfRange);
         }
-        let t = read_batch(s);
-        let told = t.outcome;
-        match told {
-            Outcome::Refused(why) => not_counted(self, why),
-            Outcome::Done => {
-                let batch = t.batch;
-                let head = batch.head;
-                let matrix = self.matrix;
-                let known = self.known;
-                let a = admit(
-                    list,
-                    self.names,
-                    known,
-                    matrix.origin,
-                    s,
-                    head.names,
-                    head.sender,
-                );
-                let admitted = a.outcome;
-                match admitted {
-                    Outcome::Refused(why) => not_counted(self, why),
-                    Outcome::Done => {
-                        let row = a.row;
-                        self.receive_bodies(inbox, outbox, s, batch, row)
-                    }
-                }
-            }
-        }
+        let batch = read_batch(s)?;
+        let row = self.admit(list, s, &batch.head.names, batch.head.sender)?;
+        self.receive_bodies(inbox, outbox, s, &batch, row)
     }
 }

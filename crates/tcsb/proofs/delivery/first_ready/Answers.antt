@@ -1,19 +1,15 @@
-use Rattle.tcsb.proofs.Ready.{look_none, look_more, look_found, look_end}
-use native.Mathlib.Omega.{arith}
-use borrow.Author.Rules.{rules}
+use Prim.Native.Nat.{ℕ}
+use Rattle.std.proofs.Common.{rules, tests}
+use Rattle.std.proofs.lemmas.Iterator.{YieldsList-from_slice}
+use Rattle.std.proofs.lemmas.Iterator.Search.{position_from_yields_List}
+use Rattle.store.specs.Words.{event_at}
+use Rattle.tcsb.specs.Replica.{ready_by}
+use Rattle.tcsb.proofs.Ready.{first_told}
 use Rattle.tcsb.proofs.delivery.first_ready.Goals as goal
 
-pub loop-i-init : goal.loop-i-init
-loop-i-init c = look_none
-
-pub returns-then-order-i : goal.returns-then-order-i
-returns-then-order-i c = look_end c.loop-i.invariant (λ h. c.if-order-i.true)
-
-pub returns-then-is_causally_ready : goal.returns-then-is_causally_ready
-returns-then-is_causally_ready c = look_found c.loop-i.invariant _ _ c.if-order-i.false (search rules) c.load-e.ensures c.is_causally_ready.ensures c.if-is_causally_ready.true
-
-pub loop-i-preserved : goal.loop-i-preserved
-loop-i-preserved c = look_more c.loop-i.invariant _ _ c.if-order-i.false (search rules) c.load-e.ensures c.is_causally_ready.ensures c.if-is_causally_ready.false
-
 pub returns : goal.returns
-returns c = look_end c.loop-i.invariant (λ h. omega arith)
+returns c =
+    let a = c.args in
+    first_told a.row a.members c.meant.ensures (λ few.
+    position_from_yields_List (λ (s : ℕ). ready_by a.members a.row.entries (event_at a.words.now s)) _ _ _ c.position.ensures.ran (YieldsList-from_slice c.meant.result.now cc)
+    (λ x b q k. search (rules, tests)))

@@ -1,26 +1,20 @@
-use native.Mathlib.Omega.{arith}
-use Rattle.tcsb.proofs.Placing.{place_none, place_more, place_found, place_all}
+use mathlib.Core.Path.{◌≡◌, ◌∙◌}
+use lib.ListN.{length}
+use Rattle.std.proofs.Common.{rules, tests}
+use Rattle.std.proofs.lemmas.Iterator.{YieldsList-from_slice, YieldsList-from_take}
+use Rattle.std.proofs.lemmas.Iterator.Search.{position_from_yields_List}
+use Rattle.lists.proofs.Laws.{length_mapped}
+use Rattle.telegram.specs.Fields.{text}
+use Rattle.telegram.specs.Reading.{same_bytes}
+use Rattle.tcsb.proofs.Placing.{member-listed}
 use Rattle.tcsb.proofs.internalizer.member_of.Goals as goal
 
-pub loop-i-init : goal.loop-i-init
-loop-i-init c = (omega arith, place_none)
-
-pub returns-then-count-i : goal.returns-then-count-i
-returns-then-count-i c =
-    let l = c.loop-i.invariant in
-    (l.0, λ h. place_all l.1 c.if-count-i.true)
-
-pub returns-then-same_text : goal.returns-then-same_text
-returns-then-same_text c =
-    let l = c.loop-i.invariant in
-    (l.0, λ h. place_found l.1 c.if-count-i.false c.same_text.ensures c.if-same_text.true)
-
-pub loop-i-preserved : goal.loop-i-preserved
-loop-i-preserved c =
-    let l = c.loop-i.invariant in
-    (omega arith, place_more l.1 c.if-count-i.false c.same_text.ensures c.if-same_text.false)
-
-pub returns : goal.returns
-returns c =
-    let l = c.loop-i.invariant in
-    (l.0, λ h. place_all l.1 (omega arith))
+pub returns-clause-place : goal.returns-clause-place
+returns-clause-place c =
+    let a = c.args in
+    let t = text a.s.now a.name in
+    let n : length a.names.now.parts ≡ 16 = search (length_mapped, rules) in
+    λ few.
+    position_from_yields_List (λ p. same_bytes (text a.list.now p) t) _ _ c.position.result c.position.ensures.ran
+    (YieldsList-from_take a.names.now.count (YieldsList-from_slice a.names.now.parts cc) cc) (λ x b q k. search (rules, tests))
+    ∙ member-listed a.list.now a.names.now t (rw n few)

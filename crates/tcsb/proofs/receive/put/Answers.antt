@@ -2,4 +2,4 @@ use Rattle.tcsb.proofs.Taking.{put_stored}
 use Rattle.tcsb.proofs.receive.put.Goals as goal
 
 pub returns : goal.returns
-returns c = put_stored c.insert-kept.ensures
+returns c = put_stored c.insert.ensures

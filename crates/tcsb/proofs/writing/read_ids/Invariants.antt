@@ -1,10 +1,6 @@
-use Prim.Native.Nat.{◌-◌}
 use Rattle.telegram.specs.Reading.{exception}
 use Rattle.tcsb.proofs.Wanting.{Excepting}
 use Rattle.tcsb.proofs.writing.read_ids.Given as goal
 
-abbrev pub invariant-loop-i : goal.invariant-loop-i
-invariant-loop-i l = Excepting l.row (exception l.names l.s) l.count l.at l.ids l.i l.next
-
-abbrev pub decreases-loop-i : goal.decreases-loop-i
-decreases-loop-i l = l.count - l.i
+abbrev pub invariant-loop : goal.invariant-loop
+invariant-loop l = Excepting l.row (exception l.since.head.names.count l.s) l.since.count l.since.exceptions l.ids l.counter l.next

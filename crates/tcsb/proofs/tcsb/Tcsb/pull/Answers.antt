@@ -1,26 +1,29 @@
+use borrow.Author.Rules.{rules}
+use mathlib.Core.Path.{◌≡◌, sym, ◌∙◌}
+use Rattle.std.specs.Prelude.{Err}
 use Rattle.tcsb.proofs.Writes.{unsent_short}
-use Rattle.tcsb.proofs.Pulls.{since-done, since_held, pull_bad, pull_strange, pull_answered}
+use Rattle.tcsb.proofs.Pulls.{since_held, pull_bad, pull_strange, pull_answered}
 use Rattle.tcsb.proofs.tcsb.Tcsb.pull.Goals as goal
 
 pub returns-then-outbox-lt-OUTBOX : goal.returns-then-outbox-lt-OUTBOX
-returns-then-outbox-lt-OUTBOX c = λ p. unsent_short _ c.if-outbox-lt-OUTBOX.true c.not_sent.ensures
+returns-then-outbox-lt-OUTBOX c = λ p. unsent_short _ c.if-outbox-lt-OUTBOX.true
 
 pub answer-requires : goal.answer-requires
-answer-requires c =
-    let a = c.args in
-    (since_held a.s.now c.read_since-t.result.since (since-done a.s.now c.read_since-t.ensures c.in-Done.is)).few
+answer-requires c = (since_held c.args.s.now c.in_ok-since.since (sym c.read_since.ensures ∙ c.in_ok-since.was)).few
 
-pub returns-in-Refused : goal.returns-in-Refused
-returns-in-Refused c =
+pub returns-in_err-since : goal.returns-in_err-since
+returns-in_err-since c =
     let a = c.args in
-    λ p. pull_bad a.self _ _ a.s.now _ c.if-outbox-lt-OUTBOX.false c.read_since-t.ensures p c.in-Refused.is c.not_sent-in-Refused.ensures
+    let e : c.from_residual.result ≡ Err c.in_err-since.field-0.0 = search rules in
+    λ p. rw e (pull_bad a.self.now _ _ a.s.now _ c.if-outbox-lt-OUTBOX.false p (sym c.read_since.ensures ∙ c.in_err-since.was))
 
-pub returns-in-Refused-admitted : goal.returns-in-Refused-admitted
-returns-in-Refused-admitted c =
+pub returns-in_err-row : goal.returns-in_err-row
+returns-in_err-row c =
     let a = c.args in
-    λ p. pull_strange a.self _ _ a.s.now _ c.if-outbox-lt-OUTBOX.false c.read_since-t.ensures p c.in-Done.is c.admit-a.ensures c.in-Refused-admitted.is c.not_sent-in-Refused-admitted.ensures
+    let e : c.from_residual-in_err-row.result ≡ Err c.in_err-row.field-0.0 = search rules in
+    λ p. rw e (pull_strange a.self.now _ _ a.s.now _ c.if-outbox-lt-OUTBOX.false p (sym c.read_since.ensures ∙ c.in_ok-since.was) c.admit.ensures c.in_err-row.was)
 
-pub returns-in-Done-admitted : goal.returns-in-Done-admitted
-returns-in-Done-admitted c =
+pub returns : goal.returns
+returns c =
     let a = c.args in
-    λ p. pull_answered a.self _ _ a.s.now _ c.if-outbox-lt-OUTBOX.false c.read_since-t.ensures p c.in-Done.is c.admit-a.ensures c.in-Done-admitted.is (c.answer.ensures p)
+    λ p. pull_answered a.self.now _ _ a.s.now _ c.if-outbox-lt-OUTBOX.false p (sym c.read_since.ensures ∙ c.in_ok-since.was) c.admit.ensures c.in_ok-row.was (c.answer.ensures p)

@@ -1,25 +1,22 @@
-use Rattle.lists.proofs.Laws.{answered_no, answered_yes}
-use Rattle.tcsb.proofs.Calls.{does_short, words_none}
-use Rattle.tcsb.proofs.Batching.{counted-not, batch-few, call_unread, call_unadmitted, call_admitted}
+use mathlib.Core.Path.{◌≡◌, sym, ◌∙◌}
+use Rattle.std.proofs.Common.{rules, Err}
+use Rattle.tcsb.proofs.Batching.{batch-few, call_unread, call_unadmitted, call_admitted}
 use Rattle.tcsb.proofs.tcsb.Tcsb.receive_batch.Goals as goal
 
-pub returns-then-not-has_words : goal.returns-then-not-has_words
-returns-then-not-has_words c = counted-not _ c.not_counted.ensures (does_short (words_none (answered_no c.has_words.ensures c.if-not-has_words.true-raw)))
+pub returns-in_err-batch : goal.returns-in_err-batch
+returns-in_err-batch c =
+    let e : c.from_residual.result ≡ Err c.in_err-batch.field-0.0 = search rules in
+    rw e (call_unread c.args.s.now _ (sym c.has_words.ensures ∙ c.if-not-has_words.false) c.read_batch.ensures c.in_err-batch.was)
+
+pub returns-in_err-row : goal.returns-in_err-row
+returns-in_err-row c =
+    let e : c.from_residual-in_err-row.result ≡ Err c.in_err-row.field-0.0 = search rules in
+    rw e (call_unadmitted c.args.s.now _ (sym c.has_words.ensures ∙ c.if-not-has_words.false) c.read_batch.ensures c.in_ok-batch.was c.admit.ensures c.in_err-row.was)
 
 pub receive_bodies-requires : goal.receive_bodies-requires
-receive_bodies-requires c = batch-few _ c.read_batch-t.ensures c.in-Done.is
+receive_bodies-requires c = batch-few c.args.s.now c.read_batch.ensures c.in_ok-batch.was
 
-pub returns-in-Refused : goal.returns-in-Refused
-returns-in-Refused c =
-    let a = c.args in
-    counted-not _ c.not_counted-in-Refused.ensures (call_unread a.s.now _ (answered_yes c.has_words.ensures c.if-not-has_words.false-raw) c.read_batch-t.ensures c.in-Refused.is)
-
-pub returns-in-Refused-admitted : goal.returns-in-Refused-admitted
-returns-in-Refused-admitted c =
-    let a = c.args in
-    counted-not _ c.not_counted-in-Refused-admitted.ensures (call_unadmitted a.s.now _ (answered_yes c.has_words.ensures c.if-not-has_words.false-raw) c.read_batch-t.ensures c.in-Done.is c.admit-a.ensures c.in-Refused-admitted.is)
-
-pub returns-in-Done-admitted : goal.returns-in-Done-admitted
-returns-in-Done-admitted c =
-    let a = c.args in
-    call_admitted a.s.now (answered_yes c.has_words.ensures c.if-not-has_words.false-raw) c.read_batch-t.ensures c.in-Done.is c.admit-a.ensures c.in-Done-admitted.is (c.receive_bodies.ensures a.list.now)
+pub returns : goal.returns
+returns c =
+    call_admitted c.args.s.now (sym c.has_words.ensures ∙ c.if-not-has_words.false) c.read_batch.ensures c.in_ok-batch.was c.admit.ensures c.in_ok-row.was
+    (c.receive_bodies.ensures c.args.list.now)

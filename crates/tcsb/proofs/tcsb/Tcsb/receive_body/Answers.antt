@@ -1,24 +1,34 @@
+use mathlib.Core.Path.{◌≡◌}
+use Rattle.std.proofs.Common.{rules, Err}
 use Rattle.tcsb.proofs.Heeding.{body_refused, body-misnumbered, tried, body_full, body-taken}
 use Rattle.tcsb.proofs.tcsb.Tcsb.receive_body.Goals as goal
+
+pub returns-in_err-row : goal.returns-in_err-row
+returns-in_err-row c =
+    let a = c.args in
+    let e : c.from_residual.result ≡ Err c.in_err-row.field-0.0 = search rules in
+    rw e (body_refused a.self.now a.list.now a.inbox.now a.outbox.now a.s.now a.read.now c.admit.ensures c.in_err-row.was)
 
 pub returns-then-is_misnumbered : goal.returns-then-is_misnumbered
 returns-then-is_misnumbered c =
     let a = c.args in
-    body-misnumbered a.self a.list.now a.inbox.now a.outbox.now a.s.now a.names a.body c.admit-t.ensures c.in-Done.is c.is_misnumbered.ensures c.if-is_misnumbered.true c.not_received-then-is_misnumbered.ensures
+    body-misnumbered a.self.now a.list.now a.inbox.now a.outbox.now a.s.now a.read.now c.admit.ensures c.in_ok-row.was c.is_misnumbered.ensures c.if-is_misnumbered.true
 
-pub returns-in-Refused : goal.returns-in-Refused
-returns-in-Refused c =
+pub returns-in_err-verdict : goal.returns-in_err-verdict
+returns-in_err-verdict c =
     let a = c.args in
-    body_refused a.self a.list.now a.inbox.now a.outbox.now a.s.now a.names a.body c.admit-t.ensures c.in-Refused.is c.not_received.ensures
+    let e : c.from_residual-in_err-verdict.result ≡ Err c.in_err-verdict.field-0.0 = search rules in
+    let T =
+    tried a.self.now a.list.now a.inbox.now a.outbox.now a.s.now a.read.now c.admit.ensures c.in_ok-row.was c.is_misnumbered.ensures c.if-is_misnumbered.false
+    c.event_from.ensures c.take.ensures
+    in
+    rw e (body_full a.self.now a.list.now a.inbox.now a.outbox.now a.s.now a.read.now T c.in_err-verdict.was)
 
-pub returns-in-Refused-receipt : goal.returns-in-Refused-receipt
-returns-in-Refused-receipt c =
+pub returns : goal.returns
+returns c =
     let a = c.args in
-    let T = tried a.self a.list.now a.inbox.now a.outbox.now a.s.now a.names a.body c.admit-t.ensures c.in-Done.is c.is_misnumbered.ensures c.if-is_misnumbered.false c.event_from-e.ensures c.take-r.ensures in
-    body_full a.self a.list.now a.inbox.now a.outbox.now a.s.now a.names a.body T c.in-Refused-receipt.is c.not_received-in-Refused-receipt.ensures
-
-pub returns-in-Is : goal.returns-in-Is
-returns-in-Is c =
-    let a = c.args in
-    let T = tried a.self a.list.now a.inbox.now a.outbox.now a.s.now a.names a.body c.admit-t.ensures c.in-Done.is c.is_misnumbered.ensures c.if-is_misnumbered.false c.event_from-e.ensures c.take-r.ensures in
-    body-taken a.self a.list.now a.inbox.now a.outbox.now a.s.now a.names a.body T c.in-Is.is c.our_place.ensures c.extend-tcsb.ensures
+    let T =
+    tried a.self.now a.list.now a.inbox.now a.outbox.now a.s.now a.read.now c.admit.ensures c.in_ok-row.was c.is_misnumbered.ensures c.if-is_misnumbered.false
+    c.event_from.ensures c.take.ensures
+    in
+    body-taken a.self.now a.list.now a.inbox.now a.outbox.now a.s.now a.read.now T c.in_ok-verdict.was c.our_place.ensures c.extend.ensures

@@ -1,39 +1,44 @@
+use borrow.Author.Rules.{rules}
+use mathlib.Core.Path.{◌≡◌}
+use native.Mathlib.Omega.{arith}
+use Rattle.std.specs.Prelude.{Err}
 use Rattle.tcsb.proofs.Writes.{unsent_short}
-use Rattle.tcsb.proofs.Sends.{entry_low, sent-long, sent_last, sent_full, sent_unwritten, sent-done}
+use Rattle.tcsb.proofs.Sends.{sent-long, sent_last, sent_full, sent_unwritten, sent-done}
 use Rattle.tcsb.proofs.tcsb.Tcsb.send.Goals as goal
+use Rattle.tcsb.proofs.tcsb.Tcsb.send.Goals.{then-outbox-lt-OUTBOX-via-then-outbox-lt-OUTBOX, then-outbox-lt-OUTBOX-via-else-outbox-lt-OUTBOX+then-operation-gt-OPERATION}
 
 pub returns-then-outbox-lt-OUTBOX : goal.returns-then-outbox-lt-OUTBOX
-returns-then-outbox-lt-OUTBOX c = λ p. unsent_short _ c.if-outbox-lt-OUTBOX.true c.not_sent.ensures
-
-pub returns-then-operation-gt-OPERATION : goal.returns-then-operation-gt-OPERATION
-returns-then-operation-gt-OPERATION c =
+returns-then-outbox-lt-OUTBOX c =
     let a = c.args in
-    λ p. sent-long a.self _ p _ _ a.operation.now c.if-outbox-lt-OUTBOX.false c.if-operation-gt-OPERATION.true c.not_sent-then-operation-gt-OPERATION.ensures
+    λ p. elim c.then-outbox-lt-OUTBOX.branch [
+      | then-outbox-lt-OUTBOX-via-then-outbox-lt-OUTBOX w ↦ unsent_short _ w.if-outbox-lt-OUTBOX.true
+      | then-outbox-lt-OUTBOX-via-else-outbox-lt-OUTBOX+then-operation-gt-OPERATION w ↦ sent-long a.self.now _ p _ _ a.operation.now
+          w.if-outbox-lt-OUTBOX.false w.if-operation-gt-OPERATION.true
+    ]
 
-pub returns-then-get-ge-LAST : goal.returns-then-get-ge-LAST
-returns-then-get-ge-LAST c =
+pub returns-then-get : goal.returns-then-get
+returns-then-get c =
     let a = c.args in
-    λ p. sent_last a.self _ p _ _ a.operation.now c.if-outbox-lt-OUTBOX.false c.if-operation-gt-OPERATION.false c.row-row.ensures c.get.ensures c.if-get-ge-LAST.true c.not_sent-then-get-ge-LAST.ensures
+    λ p. sent_last a.self.now _ p _ _ a.operation.now c.if-outbox-lt-OUTBOX.false c.if-operation-gt-OPERATION.false c.row.ensures c.get.ensures (omega (arith, c.if-get.true))
 
-pub next_event-e-requires : goal.next_event-e-requires
-next_event-e-requires c = entry_low _ _ c.row-row.ensures c.get.ensures c.if-get-ge-LAST.false
-
-pub returns-in-Refused : goal.returns-in-Refused
-returns-in-Refused c =
+pub returns-in_err-room_for : goal.returns-in_err-room_for
+returns-in_err-room_for c =
     let a = c.args in
-    λ p. sent_full a.self _ p _ _ a.operation.now c.if-outbox-lt-OUTBOX.false c.if-operation-gt-OPERATION.false c.row-row.ensures c.get.ensures c.if-get-ge-LAST.false
-    c.next_event-e.ensures c.new_in.ensures c.room_for.ensures c.in-Refused.is c.not_sent-in-Refused.ensures
+    let e : c.from_residual.result ≡ Err c.in_err-room_for.field-0.0 = search (rules, c.from_residual.ensures) in
+    λ p. rw e (sent_full a.self.now _ p _ _ a.operation.now c.if-outbox-lt-OUTBOX.false c.if-operation-gt-OPERATION.false c.row.ensures c.get.ensures
+    (omega (arith, c.if-get.false, c.get.type_inv)) c.next_event-event.ensures c.id.ensures c.new_in.ensures c.room_for.ensures c.in_err-room_for.was)
 
-pub returns-in-Refused-write_event : goal.returns-in-Refused-write_event
-returns-in-Refused-write_event c =
+pub returns-in_err-end : goal.returns-in_err-end
+returns-in_err-end c =
     let a = c.args in
-    λ p. sent_unwritten a.self _ p _ _ a.operation.now c.if-outbox-lt-OUTBOX.false c.if-operation-gt-OPERATION.false c.row-row.ensures c.get.ensures c.if-get-ge-LAST.false
-    c.next_event-e.ensures c.new_in.ensures c.room_for.ensures c.in-Done.is c.body_of.ensures c.write_event.ensures
-    c.in-Refused-write_event.is c.not_sent-in-Refused-write_event.ensures
+    let e : c.from_residual-in_err-end.result ≡ Err c.in_err-end.field-0.0 = search (rules, c.from_residual-in_err-end.ensures) in
+    λ p. rw e (sent_unwritten a.self.now _ p _ _ a.operation.now c.if-outbox-lt-OUTBOX.false c.if-operation-gt-OPERATION.false c.row.ensures c.get.ensures
+    (omega (arith, c.if-get.false, c.get.type_inv)) c.next_event-event.ensures c.id.ensures c.new_in.ensures c.room_for.ensures c.in_ok-room_for.was
+    c.body_of.ensures c.write_event.ensures c.in_err-end.was)
 
-pub returns-in-Next : goal.returns-in-Next
-returns-in-Next c =
+pub returns : goal.returns
+returns c =
     let a = c.args in
-    λ p. sent-done a.self _ p _ _ a.operation.now c.if-outbox-lt-OUTBOX.false c.if-operation-gt-OPERATION.false c.row-row.ensures c.get.ensures c.if-get-ge-LAST.false
-    c.next_event-e.ensures c.new_in.ensures c.room_for.ensures c.in-Done.is c.body_of.ensures c.write_event.ensures
-    c.put-more.ensures c.with_row-clocks.ensures c.in-Next.is
+    λ p. sent-done a.self.now _ p _ _ a.operation.now c.if-outbox-lt-OUTBOX.false c.if-operation-gt-OPERATION.false c.row.ensures c.get.ensures
+    (omega (arith, c.if-get.false, c.get.type_inv)) c.next_event-event.ensures c.id.ensures c.new_in.ensures c.room_for.ensures c.in_ok-room_for.was
+    c.body_of.ensures c.write_event.ensures c.put.ensures c.put_row.ensures c.in_ok-end.was

@@ -1,26 +1,39 @@
-use mathlib.Core.Path.{refl}
-use Rattle.tcsb.specs.declared.receive.Verdict.TheVariants.{Duplicate, Stale}
-use Rattle.tcsb.proofs.Taking.{roomed, takes_none, takes_not, takes_one}
+use mathlib.Core.Path.{◌≡◌, refl, sym}
+use mathlib.Core.Bool.{false, true≢false}
+use Rattle.std.proofs.Common.{rules, Err}
+use denote.Enum.Bare.{sameb, same_true}
+use Rattle.tcsb.specs.contracts.receive.Verdict.{the_type}
+use Rattle.tcsb.specs.declared.receive.Verdict.TheVariants.{Taken, Duplicate, Stale}
+use Rattle.tcsb.specs.declared.receive.Verdict.{Verdict}
+use Rattle.tcsb.specs.Replica.{is_taken}
+use Rattle.tcsb.proofs.Taking.{roomed, takes_none, takes_not, takes_one, more_in, more_out}
 use Rattle.tcsb.proofs.tcsb.Tcsb.take.Goals as goal
 
-pub returns-in-Duplicate : goal.returns-in-Duplicate
-returns-in-Duplicate c =
-    let a = c.args in
-    takes_none a.self a.inbox.now a.outbox.now a.e Duplicate c.judge.ensures c.in-Duplicate.is refl
+not_taken : (v : Verdict) → false ≡ sameb the_type v Taken → is_taken v ≡ false
+not_taken Taken e = absurd (true≢false (sym e))
+not_taken Duplicate e = refl
+not_taken Stale e = refl
 
-pub returns-in-Stale : goal.returns-in-Stale
-returns-in-Stale c =
+pub returns-in_err-room_for : goal.returns-in_err-room_for
+returns-in_err-room_for c =
     let a = c.args in
-    takes_none a.self a.inbox.now a.outbox.now a.e Stale c.judge.ensures c.in-Stale.is refl
+    let e : c.from_residual.result ≡ Err c.in_err-room_for.field-0.0 = search rules in
+    let v : c.judge-verdict.result ≡ Taken = same_true the_type (search rules) _ _ (sym c.if-eq.ensures) in
+    let m : c.new_in-more.result ≡ more_in a.self.now a.inbox.now a.outbox.now a.event = search rules in
+    let x : c.new_in-extra.result ≡ more_out a.self.now a.inbox.now a.outbox.now a.event = search rules in
+    let R = roomed a.self.now a.inbox.now a.outbox.now a.event c.judge-verdict.ensures v m x c.room_for.ensures in
+    rw e (takes_not a.self.now a.inbox.now a.outbox.now a.event R c.in_err-room_for.was)
 
-pub returns-in-Refused : goal.returns-in-Refused
-returns-in-Refused c =
+pub returns-in_ok-room_for : goal.returns-in_ok-room_for
+returns-in_ok-room_for c =
     let a = c.args in
-    let R = roomed a.self a.inbox.now a.outbox.now a.e c.judge.ensures c.in-Taken.is c.new_in-more.ensures c.new_in-extra.ensures c.room_for.ensures in
-    takes_not a.self a.inbox.now a.outbox.now a.e R c.in-Refused.is c.not_received.ensures
+    let v : c.judge-verdict.result ≡ Taken = same_true the_type (search rules) _ _ (sym c.if-eq.ensures) in
+    let m : c.new_in-more.result ≡ more_in a.self.now a.inbox.now a.outbox.now a.event = search rules in
+    let x : c.new_in-extra.result ≡ more_out a.self.now a.inbox.now a.outbox.now a.event = search rules in
+    let R = roomed a.self.now a.inbox.now a.outbox.now a.event c.judge-verdict.ensures v m x c.room_for.ensures in
+    rw v (takes_one a.self.now a.inbox.now a.outbox.now a.event R c.in_ok-room_for.was c.record.ensures)
 
-pub returns-in-Done : goal.returns-in-Done
-returns-in-Done c =
+pub returns-else-eq : goal.returns-else-eq
+returns-else-eq c =
     let a = c.args in
-    let R = roomed a.self a.inbox.now a.outbox.now a.e c.judge.ensures c.in-Taken.is c.new_in-more.ensures c.new_in-extra.ensures c.room_for.ensures in
-    takes_one a.self a.inbox.now a.outbox.now a.e R c.in-Done.is c.record-tcsb.ensures
+    takes_none a.self.now a.inbox.now a.outbox.now a.event c.judge-verdict.ensures (not_taken c.judge-verdict.result c.if-eq.ensures)

@@ -1,0 +1,6 @@
+use borrow.Author.Rules.{rules}
+use Rattle.tcsb.proofs.Bodies.{body-measured}
+use Rattle.tcsb.proofs.writing.BodyWritten.width.Goals as goal
+
+pub returns : goal.returns
+returns c = body-measured c.args.event.now c.args.names (search rules) c.body_of.ensures c.body_width.ensures
