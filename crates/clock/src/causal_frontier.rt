@@ -15,7 +15,8 @@ pub struct CausalFrontier {
     pub row: Row,
 }
 
-// kept: methods of two lines beside those of Version; one trait over both is no plainer, since a version is asked whether its origin fits, too.
+// kept: methods beside those of Version, and `new` beside MatrixClock's, too; one trait over the clocks is no plainer: a version and a matrix are asked whether
+// their origin fits, a cut is not, so that each promise of the trait would take the definition of the refusals as another member
 impl CausalFrontier {
     // A frontier of zeros.
     pub fn new(members: usize) -> Result<CausalFrontier, Refusal>
@@ -99,6 +100,7 @@ impl CausalFrontier {
     }
 
     // A version's entries.
+    // kept: no TryFrom: the Rust and docs/PROMISES.md name it so, and a second name says no more
     pub fn from_version(version: &Version) -> Result<CausalFrontier, Refusal>
         ensures { result ≡ frontier_from version.now }
     {

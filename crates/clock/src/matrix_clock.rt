@@ -11,6 +11,7 @@ use crate::id::ReplicaIdx;
 use crate::version_vector::{MEMBERS, Row, Version, fit};
 use refusal::Refusal;
 
+// kept: rows and entries in arrays whose count stands beside them, here and in Version and CausalFrontier: no heap, fixed memory, and plain types can be copied
 #[derive(Clone, Copy, Debug)]
 pub struct MatrixClock {
     pub members: usize,
@@ -36,6 +37,8 @@ impl Columns {
 }
 
 // The columns in which a version is above a row.
+// kept: a loop like those of `settled_cut`, `diagonal_row` and `Row::merge`: each puts another thing into another array, and one function that takes a closure is
+// no plainer than loops of three lines, since the closure would be asked a contract of its own
 fn raised_columns(row: Row, version: Row, members: usize) -> Columns
     ensures { result.raised ≡ raised_of members row.entries version.entries }
 {
@@ -69,6 +72,7 @@ impl MatrixClock {
     }
 
     // Another row at a place; unchanged where there is none.
+    // kept: the three lines of `Row::set`, over rows; `get_mut` was tried for both, and the proof did not close
     pub fn put_row(&mut self, idx: ReplicaIdx, row: Row)
         ensures { self.new ≡ with_row_at self.old idx.0 row.entries }
     {
@@ -178,25 +182,16 @@ impl MatrixClock {
         low
     }
 
-    // What a column's entry becomes; one that is not raised stays.
-    fn column_entry(&self, raised: bool, j: usize, last: u32) -> u32
-        ensures { result ≡ cond raised (settled self.now.rows self.now.members j last) last }
-    {
-        if raised {
-            self.settled_entry(j, last)
-        } else {
-            last
-        }
-    }
-
-    // The frontier's entries, column by column.
+    // The frontier's entries, column by column; one whose column is not raised stays.
     fn settled_cut(&self, cut: Row, columns: Columns) -> Row
         ensures { result.entries ≡ settled_cut self.now.rows self.now.members columns.raised cut.entries }
     {
         let n = self.members.min(MEMBERS);
         let mut r = cut;
         for j in 0..n {
-            r.entries[j] = self.column_entry(columns.raised[j], j, cut.entries[j]);
+            if columns.raised[j] {
+                r.entries[j] = self.settled_entry(j, cut.entries[j]);
+            }
         }
         r
     }

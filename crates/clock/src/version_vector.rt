@@ -49,6 +49,7 @@ pub(crate) fn fit(members: usize, other: usize, place: usize, another: usize) ->
     Ok(())
 }
 
+// kept: `members` goes beside a row through these methods; `CausalFrontier` is that pair, and the three clocks share what a row does
 impl Row {
     // A row of zeros.
     pub fn zeros() -> Row

@@ -77,15 +77,15 @@ fn put(out: &mut [u8], at: usize, value: u32)
     requires { at + width_of value ≤ length out.old }
     ensures { out.new ≡ laid out.old at (spell value) }
 {
-    let mut i = at;
     let mut n = value;
-    // kept: the number itself says when its last group is reached; how many groups it has would have to be counted first
-    while 128 <= n {
+    for i in at..out.len() {
+        if n < 128 {
+            out[i] = n as u8;
+            return;
+        }
         out[i] = (128 + n % 128) as u8;
         n /= 128;
-        i += 1;
     }
-    out[i] = n as u8;
 }
 
 // Writes a number at a place of a buffer; the answer is the place behind it.

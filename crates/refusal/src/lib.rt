@@ -4,9 +4,6 @@
 ghost use Rattle.std.specs.Prelude.{◌≡◌};
 ghost use Rattle.refusal.specs.Refusal.{number_of};
 
-use std::error::Error;
-use std::fmt;
-
 #[derive(Clone, Copy, Debug, PartialEq, Eq)]
 pub enum Refusal {
     // the telegram ends inside a field
@@ -49,12 +46,3 @@ impl Refusal {
         self as u8
     }
 }
-
-// "refused N", as the command program prints it.
-impl fmt::Display for Refusal {
-    fn fmt<W: fmt::Write>(&self, f: &mut fmt::Formatter<W>) -> fmt::Result {
-        write!(f, "refused {}", self.number())
-    }
-}
-
-impl Error for Refusal {}

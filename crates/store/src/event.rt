@@ -1,5 +1,5 @@
 // An event, and the 27 words of a slot that hold it.
-ghost use Rattle.std.specs.Prelude.{◌≡◌, ◌+◌, ◌/◌, ◌%◌, ◌<◌, ◌≤◌, length, get_or};
+ghost use Rattle.std.specs.Prelude.{◌≡◌, ◌+◌, ◌*◌, ◌/◌, ◌%◌, ◌<◌, ◌≤◌, length, get_or};
 ghost use Rattle.lists.specs.Lists.{tab};
 ghost use Rattle.store.specs.Words.{byte_of, word_of, event_at, id_of, Ran, Saved};
 
@@ -22,7 +22,7 @@ pub struct Event {
 pub const OPERATION: usize = 32;
 
 // How many words a slot has.
-// kept: a slot is plain words and no type, since callers lend `&mut [u32]`, which may not change
+// kept: a slot is plain words and no type, since `Tcsb::receive` and the calls like it are lent `&mut [u32]`, which may not change
 pub const SLOT: usize = 27;
 
 impl Event {
@@ -52,20 +52,19 @@ fn byte(word: u32, j: usize) -> u8
     word.to_le_bytes()[j]
 }
 
-// The version's entries, which begin at a word.
-// kept: that a place is below 65,536 is asked here and in the two functions like it, which are handed a slot's place; a type for it would be no plainer
-fn entries_at(words: &[u32], a: usize) -> [u32; 16]
-    requires { a < 65536 }
-    ensures { result ≡ tab 16 (λ k. get_or words.now (a + k) 0) }
+// The version's entries in a slot, behind its first three words.
+fn entries_at(words: &[u32], slot: u8) -> [u32; 16]
+    ensures { result ≡ tab 16 (λ k. get_or words.now (27 * slot + 3 + k) 0) }
 {
+    let a = SLOT * slot as usize + 3;
     array::from_fn(|k| word(words, a + k))
 }
 
-// The operation's bytes, four to a word, which begin at a word.
-fn operation_at(words: &[u32], a: usize) -> [u8; 32]
-    requires { a < 65536 }
-    ensures { result ≡ tab 32 (λ k. byte_of (get_or words.now (a + k / 4) 0) (k % 4)) }
+// The operation's bytes in a slot, four to a word, behind the entries.
+fn operation_at(words: &[u32], slot: u8) -> [u8; 32]
+    ensures { result ≡ tab 32 (λ k. byte_of (get_or words.now (27 * slot + 19 + k / 4) 0) (k % 4)) }
 {
+    let a = SLOT * slot as usize + 19;
     array::from_fn(|k| byte(word(words, a + k / 4), k % 4))
 }
 
@@ -78,10 +77,10 @@ pub fn load(words: &[u32], slot: u8) -> Event
         origin: ReplicaIdx(word(words, a) as usize),
         number: word(words, a + 1),
         version: Row {
-            entries: entries_at(words, a + 3),
+            entries: entries_at(words, slot),
         },
         len: word(words, a + 2) as usize,
-        operation: operation_at(words, a + 19),
+        operation: operation_at(words, slot),
     }
 }
 
@@ -102,7 +101,6 @@ fn words_of(operation: &[u8; 32]) -> [u32; 8]
 
 // Stores words from a place on, as far as there is room.
 fn put_run(words: &mut [u32], a: usize, src: &[u32])
-    requires { (a < 65536) × (length src.now < 65536) }
     ensures { Ran words.old words.new a (length src.now) (λ k. get_or src.now k 0) }
 {
     if a < words.len() {

@@ -2,7 +2,7 @@
 use mathlib.Core.Path.{◌≡◌, refl, sym, ap, ◌∙◌}
 use mathlib.Core.Bool.{Bool, true, false, cond, ◌&&◌, ◌||◌, or-false}
 use mathlib.Core.List.{List, [], ◌∷◌, ◌++◌, map, append-nil}
-use Prim.Native.Nat.{ℕ, zero, suc, ◌+◌, ◌≤◌, ◌<◌}
+use Prim.Native.Nat.{ℕ, zero, suc, ◌+◌, ◌-◌, ◌≤◌, ◌<◌}
 use native.Mathlib.Numerals.{add-one}
 use native.Mathlib.Omega.{arith}
 use lib.ListN.{length, get_or, take}
@@ -35,7 +35,7 @@ use Rattle.tcsb.specs.Receive.{new_to}
 use Rattle.tcsb.specs.Survey.{has_id, with_id, has_in, raised_tally, no_survey, Long, Few, noted_by, Surveys, SurveysMore, SurveysAll}
 use Rattle.store.proofs.Pruning.{keep_append}
 use Rattle.tcsb.proofs.Inserting.{id_is, is_id, has-append, one_again, one_more_lem, keep_yes, keep-no, count-append, own-append, misnumbered-append, map-append, insert_all-none}
-use Rattle.tcsb.proofs.Walked.{Reached, reach_none, reach_more, reach_bad, reach_all, body-done, body_refused}
+use Rattle.tcsb.proofs.Walked.{Reached, reach_none, reach_more, reach_bad, reach_all, body-done, body_refused, many-fails, many-same, many-ends}
 use Rattle.std.specs.Prelude.{Result, Ok, Err}
 use Rattle.leb128.specs.Leb128.{Read, got}
 
@@ -337,6 +337,7 @@ pub record SurveyedSo (p q : List ℕ) (t : Tcsb) (row : Translation) (s : List 
   pub few : Few i v
   pub reached : (list : List ℕ) (bs : List Body) (end : ℕ) → row.count ≤ 16 → names ≤ 16 → Sorted (events p t.inbox.order) → Sorted (events q t.outbox.order)
       → many count (body names s) at ≡ got bs end → Reached (body names s) count bs end i next (λ l. Surveys (view t list p q) row s l v)
+  pub fails : (k : Refusal) → names ≤ 16 → many count (body names s) at ≡ Err k → many (count - i) (body names s) next ≡ Err k
 
 module _ {p q s : List ℕ} {t : Tcsb} {row : Translation} {at names count : ℕ} where
   pub survey_none : (v : Survey) → v ≡ no_survey → SurveyedSo p q t row s at names count v at 0
@@ -344,6 +345,7 @@ module _ {p q s : List ℕ} {t : Tcsb} {row : Translation} {at names count : ℕ
     within = omega arith;
     few = rw e (record { taken = omega arith; duplicate = omega arith; stale = omega arith; ids = omega arith; waiting = omega arith; kept = omega arith });
     reached = λ list bs end h few sp sq m. reach_none m (rw e (surveys_none (view t list p q) row s));
+    fails = λ k few m. let n : count - 0 ≡ count = omega arith in rw n m;
   }
 
   pub survey_more : {v v' : Survey} {next i : ℕ} {r : Read Body} {g : Got Body} → SurveyedSo p q t row s at names count v next i → i < count → r ≡ body_at names s next
@@ -354,16 +356,25 @@ module _ {p q s : List ℕ} {t : Tcsb} {row : Translation} {at names count : ℕ
     reached = λ list bs end h few sp sq k.
         reach_more (λ l. Surveys (view t list p q) row s l v') g.value g.next (S.reached list bs end h few sp sq k) lt (body-done names s next few e o)
         (λ l z x. m.more list l h sp sq x);
+    fails = λ k few z.
+        many-fails (body names s) (count - i) (count - (i + 1)) next k g.value g.next (omega arith) (body-done names s next few e o) (S.fails k few z);
   }
 
   pub survey_refused : {v : Survey} {next i : ℕ} {r : Read Body} {k : Refusal} → SurveyedSo p q t row s at names count v next i → i < count
       → r ≡ body_at names s next → r ≡ Err k → SurveysAll p q t row s at names count (Err k)
-  survey_refused {v} {next} {i} S lt e o =
-      record { all = λ list bs end h few sp sq m. absurd (reach_bad (S.reached list bs end h few sp sq m) lt (body_refused names s next few e o)) }
+  survey_refused {v} {next} {i} {r} {k} S lt e o =
+      record {
+        all = λ list bs end h few sp sq m. absurd (reach_bad (S.reached list bs end h few sp sq m) lt (body_refused names s next few e o));
+        fails = λ j few z.
+            ap Err (many-same (body names s) (count - i) (count - (i + 1)) next j k (omega arith) (body_refused names s next few e o) (S.fails j few z));
+      }
 
   pub survey_all : {v : Survey} {next i : ℕ} → SurveyedSo p q t row s at names count v next i → count ≤ i → SurveysAll p q t row s at names count (Ok v)
-  survey_all {v} S le =
-      record { all = λ list bs end h few sp sq m. (v, (refl, reach_all (λ l. Surveys (view t list p q) row s l v) (S.reached list bs end h few sp sq m) le)) }
+  survey_all {v} {next} {i} S le =
+      record {
+        all = λ list bs end h few sp sq m. (v, (refl, reach_all (λ l. Surveys (view t list p q) row s l v) (S.reached list bs end h few sp sq m) le));
+        fails = λ k few z. absurd (many-ends (body names s) (count - i) next k (omega arith) (S.fails k few z));
+      }
 
 pub few_up : {m n : ℕ} {v : Survey} → Few m v → m ≤ n → Few n v
 few_up f h = record {

@@ -32,6 +32,24 @@ module _ {A : Type 0} (f : ℕ → Read A) where
 bad-got : {A : Type 0} {k : Refusal} {a : A} {next : ℕ} → Err k ≡ got a next → ⊥
 bad-got e = let z : ◌≡◌ {A = ℕ} 0 1 = cc in omega arith
 
+module _ {A : Type 0} (f : ℕ → Read A) where
+  -- what can't be read as a whole can't be read behind a thing that was read
+  pub many-fails : (n m at : ℕ) (k : Refusal) (a : A) (next : ℕ) → n ≡ suc m → f at ≡ got a next → many n f at ≡ Err k → many m f next ≡ Err k
+  unfolding many
+  many-fails n m at k a next e h g = go (many m f next) (rw (e, h) at g)
+    where
+      go : (r : Read (List A)) → after r (λ l end. got (a ∷ l) end) ≡ Err k → r ≡ Err k
+      go (Ok x) p = absurd (bad-got (sym p))
+      go (Err j) p = p
+
+  pub many-same : (n m at : ℕ) (k j : Refusal) → n ≡ suc m → f at ≡ Err j → many n f at ≡ Err k → j ≡ k
+  unfolding many
+  many-same n m at k j e h g = let p : ◌≡◌ {A = Read (List A)} (Err j) (Err k) = rw (e, h) at g in cc
+
+  pub many-ends : (n at : ℕ) (k : Refusal) → n ≡ 0 → many n f at ≡ Err k → ⊥
+  unfolding many
+  many-ends n at k e g = let p : ◌≡◌ {A = Read (List A)} (got [] at) (Err k) = rw e at g in bad-got (sym p)
+
 -- an element behind some others
 in_behind : {A : Type 0} (l : List A) (a : A) (m : List A) → In a (l ++ (a ∷ m))
 in_behind [] a m = Memᴰ.head refl

@@ -20,7 +20,7 @@ use Rattle.tcsb.specs.declared.receive.Verdict.TheVariants.{Taken, Duplicate, St
 use Rattle.tcsb.specs.declared.batch.Tally.{Tally}
 use Rattle.tcsb.specs.declared.batch.Ids.{Ids}
 use Rattle.tcsb.specs.declared.batch.Survey.{Survey}
-use Rattle.std.specs.Prelude.{Result, Ok}
+use Rattle.std.specs.Prelude.{Result, Ok, Err}
 use Rattle.leb128.specs.Leb128.{got}
 
 -- ---- ids
@@ -99,6 +99,7 @@ pub record SurveysMore (p q : List ℕ) (t : Tcsb) (row : Translation) (s : List
 pub record SurveysAll (p q : List ℕ) (t : Tcsb) (row : Translation) (s : List ℕ) (at names count : ℕ) (r : Result Survey Refusal) : Type 0 where
   pub all : (list : List ℕ) (bs : List Body) (end : ℕ) → row.count ≤ 16 → names ≤ 16 → Sorted (events p t.inbox.order) → Sorted (events q t.outbox.order)
       → many count (body names s) at ≡ got bs end → (v : Survey) × ((r ≡ Ok v) × Surveys (view t list p q) row s bs v)
+  pub fails : (k : Refusal) → names ≤ 16 → many count (body names s) at ≡ Err k → r ≡ Err k
 
 -- ---- storing
 

@@ -25,7 +25,9 @@ pub struct Tally {
 }
 
 // The ids of a batch's events that are to be taken, each once.
-// kept: an array and its count: no heap, fixed memory, and plain types can be copied, which no library type with a length of its own can
+// kept: an array and its count: no heap, fixed memory, and plain types can be copied, which no library type with a length of its own can; not one type with
+// the store's `Slots`, with which it shares `none` and `push` alone, two lines each; that the count is at most 256 is asked by `has`, `is_wanted` and `wanted`
+// and is no ghost field, since the definition `with_id` makes ids of any count
 #[derive(Clone, Copy, Debug)]
 pub struct Ids {
     pub(crate) at: [EventId; IDS],
@@ -34,6 +36,7 @@ pub struct Ids {
 
 // What a walk over a batch's bodies found: whether an origin is ourselves, whether an event is numbered wrong, the tally, the ids to be taken,
 // and how many of those are new to the inbox and to the outbox.
+// kept: `own` and `misnumbered` are marks and no refusals yet: 10 goes before 11, whichever body comes first
 #[derive(Clone, Copy, Debug)]
 pub struct Survey {
     pub(crate) own: bool,
@@ -180,8 +183,8 @@ impl Tcsb {
     }
 
     // Stores the events of a batch's bodies that are to be taken.
-    // kept: a walk of its own beside survey_bodies; one walk that takes a closure is no plainer, since the closure's contract would carry the
-    // invariant of each walk
+    // kept: a walk of its own beside `survey_bodies` and `read_ids`; one walk that takes a closure, or an iterator that holds the place, is no plainer, since its
+    // contract would carry the invariant of each walk
     fn record_bodies(
         &mut self,
         inbox: &mut [u32],
@@ -233,6 +236,7 @@ impl Tcsb {
     }
 
     // Receives a batch telegram: the same for each event in order; the batch's own version is not used.
+    // kept: `receive` and `pull` go the same way in four lines: words, reader, row, what is then done; each calls another reader and does another thing
     pub fn receive_batch(
         &mut self,
         list: &[u8],

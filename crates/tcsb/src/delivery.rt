@@ -14,7 +14,7 @@ use store::event::{Event, load};
 use store::order::{SLOTS, Slots};
 
 // Whether an entry is ours plus one at the origin, at most ours elsewhere.
-// kept: a bool says which entry it is, since the definition `entry_ready` takes one.
+// kept: the bool is no switch on a step: document 01 asks another thing of the origin's entry than of the others, and `entry_ready` says both in this form
 fn is_entry_ready(ours: u32, entry: u32, origin: bool) -> bool
     ensures { result ≡ entry_ready ours entry origin }
 {

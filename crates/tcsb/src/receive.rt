@@ -64,6 +64,8 @@ pub(crate) fn put(store: &mut Store, words: &mut [u32], event: Event)
     let _ = store.insert(words, event);
 }
 
+// kept: `inbox` and `outbox` go side by side through the calls: they are lent slices, and a struct of the two would be made in each public call, whose
+// arguments may not change
 impl Tcsb {
     // Duplicate if the number is at most the origin row's own entry.
     fn is_duplicate(&self, event: &Event) -> bool

@@ -92,8 +92,8 @@ impl Written for Exception {
 }
 
 // How many bytes the events of the slots take.
-// kept: slots are handed over as they are, here and in `put_items` and `wanted`: behind a reference the proof doesn't see that their array has 256
-// places, which bounds the sum; tried, and the proof did not close
+// kept: slots are handed over as they are, here and in `wanted`: behind a reference the proof doesn't see that their array has 256 places, which bounds the
+// sum here and the pushes there; tried, and the proof did not close. `put_items` takes them as `items_width` does
 fn items_width<I: Written>(words: &[u32], slots: Slots, names: usize) -> Result<usize, Refusal>
     ensures { ItemsWidth I.bytes words.now slots names result }
 {
@@ -122,6 +122,7 @@ fn put_items<I: Written>(
 }
 
 // A slot behind the others.
+// kept: beside the store's own `push`, which asks for room and so is not public: no public call asks anything of its caller
 fn push(slots: &mut Slots, slot: u8)
     ensures { slots.old.count < 256 → slots.new ≡ pushed slots.old slot }
 {
@@ -317,6 +318,7 @@ impl Tcsb {
     }
 
     // Next until none is ready; the slots of what it delivered, in order.
+    // kept: not by `next_causally_ready`, which answers the event; here the slot is wanted, and the words were tested before
     fn deliver_all(&mut self, inbox: &[u32]) -> Slots
         ensures { DeliversAll inbox.now self.old self.new result }
     {

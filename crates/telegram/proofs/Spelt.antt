@@ -9,10 +9,9 @@ use lib.Dec.{leb, ltb}
 use borrow.Author.Tests.{leb-true, ltb-true, le-leb, lt-ltb}
 use Rattle.lists.specs.Lists.{all, chain}
 use Rattle.refusal.specs.declared.Refusal.{Refusal}
-use Rattle.std.specs.Prelude.{Ok, Err, IfOk}
+use Rattle.std.specs.Prelude.{Ok, Err}
 use Rattle.refusal.specs.Refusal.{no}
 use Rattle.leb128.specs.Leb128.{spell, width_of}
-use Rattle.leb128.proofs.Spelling.{width_range}
 use Rattle.telegram.specs.declared.list.Names.{Names}
 use Rattle.telegram.specs.declared.body.Body.{Body}
 use Rattle.telegram.specs.declared.head.Head.{Head}
@@ -114,10 +113,6 @@ body_spelt_lem count s b {w} told said =
 pub body_small : {count : ℕ} {s : List ℕ} {b : Body} {w : ℕ} → BodySpelt count s b w → w ≤ 311
 body_small {count} {s} {b} f = omega (arith, f.spelt.long, body_most count s b f.few f.listed f.fits)
 
-pub body_short : (count : ℕ) (s : List ℕ) (b : Body) (r : Whole ℕ) → r ≡ measured (body_spelt count s b) → IfOk r (λ w. w ≤ 311)
-body_short count s b (Ok w) told = body_small (body_spelt_lem count s b told refl)
-body_short count s b (Err k) told = tt
-
 pub body-measured : (count : ℕ) (s : List ℕ) (b : Body) → count ≤ 16 → b.place.0 < count → part_fits 0 32 s b.operation ≡ true
     → measured (body_spelt count s b) ≡ Ok (1 + width_of b.number + length (version_bytes (take count b.entries)) + 1 + b.operation.len)
 unfolding body_spelt
@@ -183,13 +178,6 @@ exception_spelt_lem count x {w} told said =
       listed = ltb-true _ _ g.0;
       spelt = record { is = rw (f.0, g.0); long = whole_long (exception_bytes x) w g.1 };
     }
-
-pub exception_short : (count : ℕ) (x : Exception) (r : Whole ℕ) → r ≡ measured (exception_spelt count x) → IfOk r (λ w. w ≤ 311)
-unfolding exception_bytes
-exception_short count x (Ok w) told =
-    let f = exception_spelt_lem count x told refl in
-    omega (arith, f.spelt.long, length-append (spell x.place.0) (spell x.number), width_range x.place.0, width_range x.number)
-exception_short count x (Err k) told = tt
 
 -- ---- events
 

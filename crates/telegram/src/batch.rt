@@ -1,9 +1,9 @@
 // The batch telegram: 2, list, sender's place, sender's version, count, event bodies.
 ghost use Rattle.std.specs.Prelude.{◌≡◌};
 ghost use Rattle.telegram.specs.Reading.{body, batch};
-ghost use Rattle.telegram.specs.Writing.{body_spelt, head_spelt, Wrote};
+ghost use Rattle.telegram.specs.Writing.{head_spelt, Wrote};
 
-use crate::body::{Body, body_width, read_fields, write_body};
+use crate::body::{Body, read_fields};
 use crate::field::Kind;
 use crate::head::{Head, write_head};
 use crate::items::{Item, read_items};
@@ -24,18 +24,8 @@ pub struct Batch {
 impl Item for Body {
     ghost read_of = { body };
 
-    ghost spelt = { body_spelt };
-
     fn read(s: &[u8], at: usize, names: usize) -> Result<Got<Body>, Refusal> {
         read_fields(s, at, names)
-    }
-
-    fn width(&self, names: usize, s: &[u8]) -> Result<usize, Refusal> {
-        body_width(names, s, self)
-    }
-
-    fn write(&self, out: &mut [u8], at: usize, names: usize, s: &[u8]) -> Result<usize, Refusal> {
-        write_body(out, at, names, s, self)
     }
 }
 

@@ -24,7 +24,8 @@ pub struct Body {
 }
 
 // One version entry per listed name.
-// kept: the twin of `read_names` of list.rt: a trait for what the two read is no plainer than their loops of four lines
+// kept: the twin of `read_names` of list.rt: one loop that takes what reads a thing, as a trait or a closure, is no plainer than two loops of four lines,
+// since it would have to be handed the zero, the array and the reader
 pub(crate) fn read_entries(s: &[u8], at: usize, count: usize) -> Result<Got<[u32; 16]>, Refusal>
     requires { count ≤ 16 }
     ensures { result ≡ entries count s.now at }
@@ -101,6 +102,7 @@ pub(crate) fn put_entries(out: &mut [u8], at: usize, version: &[u32]) -> usize
 }
 
 // How many bytes a body takes behind a list of so many names, its operation a part of s.
+// kept: begins with the two tests of `exception_width`, as the definitions `body_spelt` and `exception_spelt` do
 #[tactic(auto, unfolding(crate::specs::Writing::body_spelt))]
 pub fn body_width(count: usize, s: &[u8], body: &Body) -> Result<usize, Refusal>
     ensures { result ≡ measured (body_spelt count s.now body.now) }

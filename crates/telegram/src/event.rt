@@ -34,6 +34,7 @@ fn read_form(s: &[u8]) -> Result<Event, Refusal>
 }
 
 // What an event telegram says, or why it is refused.
+// kept: form, then names, as `read_items` judges a batch or a since; an event has neither head nor count
 pub fn read_event(s: &[u8]) -> Result<Event, Refusal>
     ensures { result ≡ event s.now }
 {

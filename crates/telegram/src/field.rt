@@ -49,6 +49,8 @@ impl Part {
 }
 
 // The telegram's kind.
+// kept: `s, at` go side by side through the readers, `out, at` through the writers, as through the definitions (`sized 0 32 s at`); a reader or writer that
+// holds both would be made in each public call, whose arguments may not change, and read no plainer
 #[tactic(auto, unfolding(crate::specs::Fields::kind))]
 pub(crate) fn read_kind(s: &[u8], at: usize, wanted: Kind) -> Result<Got<u32>, Refusal>
     ensures { result ≡ kind (number_of wanted) s.now at }

@@ -12,6 +12,7 @@ use leb128::Got;
 use refusal::Refusal;
 
 // The sender's version has one entry per listed name, 0 behind them.
+// kept: entries in an array whose count stands in the list: no heap, fixed memory, and plain types can be copied
 #[derive(Clone, Copy, Debug, PartialEq, Eq)]
 pub struct Head {
     pub names: Names,

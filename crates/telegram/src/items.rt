@@ -1,9 +1,8 @@
 // What a batch and a since carry behind their head: a count, and so many things of one kind.
-ghost use Rattle.std.specs.Prelude.{◌≡◌, ◌≤◌, ℕ, List, IfOk};
+ghost use Rattle.std.specs.Prelude.{◌≡◌, ◌≤◌, ℕ, List};
 ghost use Rattle.leb128.specs.Leb128.{Read};
 ghost use Rattle.telegram.specs.Fields.{number_of, end_of, many};
-ghost use Rattle.telegram.specs.Reading.{Whole, items_of, items_form, items};
-ghost use Rattle.telegram.specs.Writing.{measured, Wrote};
+ghost use Rattle.telegram.specs.Reading.{items_of, items_form, items};
 
 use crate::field::{Kind, read_count};
 use crate::head::{Head, read_head};
@@ -12,25 +11,14 @@ use leb128::Got;
 use refusal::Refusal;
 
 // A thing that stands behind a head, whose places count in the head's list.
-pub trait Item: Sized {
-    // what is read of a list's count, the bytes and a place; how it is spelt behind a list of so many names, its parts being parts of the bytes
+pub(crate) trait Item: Sized {
+    // what is read of a list's count, the bytes and a place
     ghost read_of: { ℕ → List ℕ → ℕ → Read Self };
-
-    ghost spelt: { ℕ → List ℕ → Self → Whole (List ℕ) };
 
     // The thing at a place, behind a list of so many names.
     fn read(s: &[u8], at: usize, names: usize) -> Result<Got<Self>, Refusal>
         requires { names ≤ 16 }
         ensures { result ≡ read_of names s.now at };
-
-    // How many bytes it takes behind a list of so many names, its parts being parts of s.
-    fn width(&self, names: usize, s: &[u8]) -> Result<usize, Refusal>
-        ensures told { result ≡ measured (spelt names s.now self.now) }
-        ensures short { IfOk result (λ w. w ≤ 311) };
-
-    // Writes it at a place of a buffer, behind a list of so many names, its parts being parts of s.
-    fn write(&self, out: &mut [u8], at: usize, names: usize, s: &[u8]) -> Result<usize, Refusal>
-        ensures { Wrote out.old out.new at 0 (spelt names s.now self.now) result };
 }
 
 // A head, and so many things from a place on.

@@ -21,8 +21,8 @@ pub struct Names {
 }
 
 // So many names.
-// kept: that a count is at most sixteen is asked by the functions that read so many of something; a type for such a count would be made and taken apart at
-// each of them, and read no plainer
+// kept: `count ≤ 16` is asked here, by `is_fair_at`, `is_fair`, `names_width`, by three functions of body.rt and two of items.rt: a count stands in `Names`,
+// whose fields are public, and as its invariant it would ask more of those who call `judge_list`, `write_list` and `write_event`
 fn read_names(s: &[u8], at: usize, count: usize) -> Result<Got<Names>, Refusal>
     requires { count ≤ 16 }
     ensures { result ≡ names count s.now at }
@@ -138,6 +138,8 @@ pub(crate) fn put_list(out: &mut [u8], at: usize, s: &[u8], names: &Names) -> us
 }
 
 // Writes a list at a place of a buffer.
+// kept: `write_body`, `write_exception` and `write_head` go the same way, width, room, put; a trait of these three steps is no plainer, since what each step
+// is asked has a definition of its own, and two of them need the bytes that hold the parts
 pub fn write_list(out: &mut [u8], at: usize, s: &[u8], names: &Names) -> Result<usize, Refusal>
     ensures { Wrote out.old out.new at 0 (list_spelt s.now names.now) result }
 {

@@ -22,6 +22,7 @@ pub struct Exception {
 }
 
 // So many exceptions from a place on, each read by itself with `read_exception`.
+// kept: `Batch` but for the name of a field, by which callers of `read_batch` and `read_since` know what they hold
 #[derive(Clone, Copy, Debug, PartialEq, Eq)]
 pub struct Since {
     pub head: Head,
@@ -32,18 +33,8 @@ pub struct Since {
 impl Item for Exception {
     ghost read_of = { exception };
 
-    ghost spelt = { λ count s e. exception_spelt count e };
-
     fn read(s: &[u8], at: usize, names: usize) -> Result<Got<Exception>, Refusal> {
         read_exception(s, at, names)
-    }
-
-    fn width(&self, names: usize, _s: &[u8]) -> Result<usize, Refusal> {
-        exception_width(names, *self)
-    }
-
-    fn write(&self, out: &mut [u8], at: usize, names: usize, _s: &[u8]) -> Result<usize, Refusal> {
-        write_exception(out, at, names, *self)
     }
 }
 
@@ -110,6 +101,7 @@ pub fn write_exception(
 
 // Writes a since telegram up to its exceptions, the names being parts of s; `write_exception` then writes each exception behind it. Refused
 // with 15 where the exceptions, `behind` bytes in all, would not fit.
+// kept: `write_batch_head` but for the kind and a limit; both are public, and each only hands them on to `write_head`
 pub fn write_since_head(
     out: &mut [u8],
     s: &[u8],

@@ -23,6 +23,7 @@ use vector_text::{hex_byte, number_at};
 const BUFFER: usize = 65536;
 
 // A line of numbers: how far they have been met, and whether all of them were.
+// kept: `agrees` is asked once, at the line's end; an Option handed on by `?` would stand at every call of a `meets` and say no more
 #[derive(Clone, Copy)]
 struct Line<'a> {
     text: &'a [u8],
@@ -31,6 +32,7 @@ struct Line<'a> {
 }
 
 // A thing that stands behind a head.
+// kept: not the trait of telegram, which is not public since it asks for at most sixteen names, and knows no lines
 trait Listed: Sized {
     fn read(s: &[u8], at: usize, names: usize) -> Result<Got<Self>, Refusal>;
 
@@ -360,10 +362,9 @@ impl Run {
 fn last_end(s: &[u8]) -> usize
     ensures { result ≤ length s.now }
 {
-    match s.iter().rposition(|b| *b == b'\n') {
-        Some(feed) => feed + 1,
-        None => 0,
-    }
+    s.iter()
+        .rposition(|b| *b == b'\n')
+        .map_or(0, |feed| feed + 1)
 }
 
 // Reads until a buffer is full or the file ends, and answers how many bytes were read.

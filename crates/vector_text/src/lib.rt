@@ -1,10 +1,11 @@
 // What the test programs read their lines by: hex digits, bytes in hex, numbers in decimal digits.
 #![tactic(auto)]
 
-ghost use Rattle.std.specs.Prelude.{◌≡◌};
+ghost use Rattle.std.specs.Prelude.{◌≡◌, ◌≤◌, length};
 ghost use Rattle.vector_text.specs.Text.{nibble_of, hex_byte_of, number_at_of};
 
 // A number in decimal digits, and the place behind them.
+// kept: not the `Got` of leb128, so that this library stands on none
 #[derive(Clone, Copy, Debug, PartialEq, Eq)]
 pub struct Decimal {
     pub value: u64,
@@ -34,7 +35,8 @@ pub fn hex_byte(digits: &[u8]) -> Option<u8>
 
 // The decimal digits at a place; of more than eighteen the last eighteen count.
 pub fn number_at(text: &[u8], at: usize) -> Decimal
-    ensures { result ≡ number_at_of text.now at }
+    ensures told { result ≡ number_at_of text.now at }
+    ensures inside { result.next ≤ length text.now }
 {
     let start = at.min(text.len());
     let mut value: u64 = 0;

@@ -9,8 +9,8 @@ loop-i-init c =
     let n : c.min-start.result + 0 ≡ min c.args.at (length c.args.text.now) = omega (arith, c.min-start.ensures) in
     rw (part_is c.args.text.now c.min-start.result, n, c.min-start.ensures) refl
 
-pub returns-then-b-lt48 : goal.returns-then-b-lt48
-returns-then-b-lt48 c =
+pub returns-then-b-lt48-clause-told : goal.returns-then-b-lt48-clause-told
+returns-then-b-lt48-clause-told c =
     let s = take (length c.args.text.now - c.min-start.result) (drop c.min-start.result c.args.text.now) in
     elim c.then-b-lt48.branch [
       | then-b-lt48-via-then-b-lt48 w ↦ sym (c.loop-i.invariant ∙ digit_low s c.loop-i.value c.min-start.result c.loop-i.i c.loop-i-test.true w.if-b-lt48.true)
@@ -23,8 +23,8 @@ loop-i-preserved c =
     let s = take (length c.args.text.now - c.min-start.result) (drop c.min-start.result c.args.text.now) in
     c.loop-i.invariant ∙ rw c.from.ensures (digit_more s c.loop-i.value c.min-start.result c.loop-i.i c.loop-i-test.true c.if-b-lt48.false c.if-b-gt57.false)
 
-pub returns : goal.returns
-returns c =
+pub returns-clause-told : goal.returns-clause-told
+returns-clause-told c =
     let text = c.args.text.now in
     let k = c.min-start.result in
     let s = take (length text - k) (drop k text) in

@@ -1,4 +1,4 @@
-use Prim.Native.Nat.{◌+◌, ◌/◌, ◌%◌}
+use Prim.Native.Nat.{ℕ, ◌+◌, ◌*◌, ◌/◌, ◌%◌}
 use lib.ListN.{get_or}
 use mathlib.Core.Path.{◌≡◌}
 use borrow.Author.Rules.{rules}
@@ -9,4 +9,5 @@ use Rattle.store.proofs.event.operation_at.Goals as goal
 pub returns : goal.returns
 returns c =
     let w = c.args.words.now in
-    made c.from_fn.ensures.items 0 (λ f. (f.0.now ≡ w) × (f.1.now ≡ c.args.a)) (λ k. byte_of (get_or w (c.args.a + k / 4) 0) (k % 4)) (search rules) (λ p q k y a l t. search rules)
+    let a : ℕ = 27 * c.args.slot + 19 in
+    made c.from_fn.ensures.items 0 (λ f. (f.0.now ≡ w) × (f.1.now ≡ a)) (λ k. byte_of (get_or w (a + k / 4) 0) (k % 4)) (search rules) (λ p q k y a l t. search rules)

@@ -1,15 +1,10 @@
 use Rattle.store.proofs.Runs.{saved}
 use mir.Val.{Fits}
 use mir.Syntax.{w8}
-use lib.ListN.{length, get_or}
-use native.Mathlib.Omega.{arith}
-use mathlib.Core.Path.{◌≡◌}
+use lib.ListN.{get_or}
 use Prim.Native.Nat.{ℕ}
 use borrow.Author.Rules.{rules}
 use Rattle.store.proofs.event.save.Goals as goal
-
-pub put_run-requires-2 : goal.put_run-requires-2
-put_run-requires-2 c = let n : length c.args.event.version.entries ≡ 16 = search rules in omega arith
 
 pub returns : goal.returns
 returns c =
