@@ -9,7 +9,7 @@ use Rattle.clock.specs.Matrix.{zero_matrix, no_columns}
 use Rattle.telegram.specs.Reading.{nowhere, texts}
 use Rattle.telegram.specs.Writing.{list_fits, Wrote}
 use Rattle.telegram.specs.declared.list.Names.{Names}
-use Rattle.store.specs.Orders.{no_slots, free_slots, events}
+use Rattle.store.specs.Orders.{events, new_store}
 use Rattle.store.specs.Orders as orders
 use Rattle.tcsb.specs.Internalizer.{no_translation}
 use Rattle.tcsb.specs.Replica.{State, Call, answer_of, state_after, lent, found_of}
@@ -25,9 +25,6 @@ use Rattle.std.specs.Prelude.{Result, Ok, Err}
 abbrev pub has_words : ℕ → ℕ → Bool
 has_words m n = leb 1728 m && leb 6912 n
 
-abbrev pub empty_store : ℕ → Store
-empty_store n = record { order = no_slots; free = free_slots n }
-
 abbrev pub zero_tcsb : Names → ℕ → Tcsb
 zero_tcsb names place = record {
   names = names;
@@ -35,8 +32,8 @@ zero_tcsb names place = record {
   frontier = record { members = names.count; row = record { entries = zero_entries } };
   raised = record { raised = no_columns };
   known = tab 16 (λ i. no_translation);
-  inbox = empty_store 64;
-  outbox = empty_store 256;
+  inbox = new_store 64;
+  outbox = new_store 256;
 }
 
 abbrev pub with_stores : Tcsb → Store → Store → Tcsb
