@@ -16,7 +16,8 @@ pub struct CausalFrontier {
 }
 
 // kept: methods beside those of Version, and `new` beside MatrixClock's, too; one trait over the clocks is no plainer: a version and a matrix are asked whether
-// their origin fits, a cut is not, so that each promise of the trait would take the definition of the refusals as another member
+// their origin fits, a cut is not, so that each promise of the trait would take the definition of the refusals as another member.
+// `join`, `meet`, `join_version` and `set_by_idx` share their first line with each other, and no more
 impl CausalFrontier {
     // A frontier of zeros.
     pub fn new(members: usize) -> Result<CausalFrontier, Refusal>

@@ -37,8 +37,8 @@ impl Columns {
 }
 
 // The columns in which a version is above a row.
-// kept: a loop like those of `settled_cut`, `diagonal_row` and `Row::merge`: each puts another thing into another array, and one function that takes a closure is
-// no plainer than loops of three lines, since the closure would be asked a contract of its own
+// kept: a loop like those of `settled_cut` and `diagonal_row`, not by the closure of `Row::merge`, which sees two entries and no place: theirs would see the
+// place and the clock, and here an array of bools is filled; each would add a contract of the closure to a loop of three to five lines
 fn raised_columns(row: Row, version: Row, members: usize) -> Columns
     ensures { result.raised ≡ raised_of members row.entries version.entries }
 {

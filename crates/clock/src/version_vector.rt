@@ -49,7 +49,7 @@ pub(crate) fn fit(members: usize, other: usize, place: usize, another: usize) ->
     Ok(())
 }
 
-// kept: `members` goes beside a row through these methods; `CausalFrontier` is that pair, and the three clocks share what a row does
+// kept: `members` goes beside a row through these methods, which are public and stand so in docs/PROMISES.md (`join`, `meet`, `at_most`, `compare`, `sum`)
 impl Row {
     // A row of zeros.
     pub fn zeros() -> Row
@@ -268,6 +268,7 @@ impl Version {
     }
 
     // A frontier's entries, with an origin chosen for them.
+    // kept: no TryFrom, since it takes an origin, too; `version_by_idx` has its shape and other entries, those of a matrix's row
     pub fn from_frontier(frontier: &CausalFrontier, origin: ReplicaIdx) -> Result<Version, Refusal>
         ensures { result ≡ version_from frontier.now origin.0 }
     {

@@ -22,7 +22,8 @@ pub struct Event {
 pub const OPERATION: usize = 32;
 
 // How many words a slot has.
-// kept: a slot is plain words and no type, since `Tcsb::receive` and the calls like it are lent `&mut [u32]`, which may not change
+// kept: a slot is plain words and no type, since `Tcsb::receive` and the calls like it are lent `&mut [u32]`, which may not change; not pieces of 27, since a
+// slot that is cut short reads as 0 behind the end, as `event_at` says
 pub const SLOT: usize = 27;
 
 impl Event {

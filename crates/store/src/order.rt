@@ -146,8 +146,8 @@ impl Store {
 
     // Puts an event into the store, in the place of one with the same id; not done where no slot is free, or where its origin's place or its length
     // is out of range.
-    // kept: `insert`, `remove` and `prune` answer whether it was done; document 01 has no number for what they don't do, so that a Result would need an error that
-    // says nothing
+    // kept: `insert`, `remove` and `prune` answer whether it was done: which number of document 01 it would be depends on the store (12 or 13), and the replica has
+    // answered with it before it calls; for `remove` and `prune` it has none
     pub fn insert(&mut self, words: &mut [u32], event: Event) -> bool
         ensures { Put words.old words.new self.old self.new event result }
     {

@@ -236,7 +236,8 @@ impl Tcsb {
     }
 
     // Receives a batch telegram: the same for each event in order; the batch's own version is not used.
-    // kept: `receive` and `pull` go the same way in four lines: words, reader, row, what is then done; each calls another reader and does another thing
+    // kept: `pull` goes the same way in four lines, words, reader, row, what is then done, and `receive` in three; each calls another reader and does another
+    // thing. The words are tested in each call that is lent some, since no public call asks anything of its caller
     pub fn receive_batch(
         &mut self,
         list: &[u8],

@@ -17,7 +17,8 @@ use telegram::list::{MEMBERS, Names, same_text};
 
 // Our places of the names that a sender lists, by their places in its list; 0 behind them.
 // kept: an array and its count: no heap, fixed memory, and plain types can be copied, which no library type with a length of its own can; that the count is at
-// most sixteen is a premise of four clauses and no invariant, since `translate` takes it from `Names`, whose fields are public and bound nothing, as `translation_of` does
+// most sixteen is a premise of four clauses and no invariant, since `translate` takes it from `Names`, whose fields are public and bound nothing, as `translation_of` does; so the
+// like premises of `member_of`, `translate` and `admit` on names stand, too
 #[derive(Clone, Copy, Debug, PartialEq, Eq)]
 pub struct Translation {
     pub count: usize,

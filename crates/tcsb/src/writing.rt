@@ -3,6 +3,8 @@ ghost use Rattle.std.specs.Prelude.{◌≡◌, ℕ, ◌<◌, ◌≤◌, List, []
 ghost use Rattle.store.specs.declared.event.Event.{Event};
 ghost use Rattle.store.specs.Orders.{pushed};
 ghost use Rattle.clock.specs.Matrix.{row_of};
+ghost use Rattle.telegram.specs.Reading.{Whole};
+ghost use Rattle.telegram.specs.Writing.{body_spelt, exception_spelt, measured};
 ghost use Rattle.lists.specs.Lists.{at};
 ghost use Rattle.tcsb.specs.Replica.{exception_of, sent_event, send_of, since_of, pull_of, flush_of};
 ghost use Rattle.tcsb.specs.Tcsb.{view, has_words, Writes, WritesOnly, WritesIf};
@@ -58,9 +60,13 @@ trait Written {
     // Its bytes behind a list of so many names.
     ghost bytes: { ℕ → Event → List ℕ };
 
+    // How it is spelt there, or why it can't be.
+    ghost spelt: { ℕ → Event → Whole (List ℕ) };
+
     // How many bytes the event takes.
     fn width(event: &Event, names: usize) -> Result<usize, Refusal>
-        ensures { Measures bytes event.now names result };
+        ensures measures { Measures bytes event.now names result }
+        ensures told { result ≡ measured (spelt names event.now) };
 
     // Writes the event where it fits; the answer is the place behind it.
     fn put(out: &mut [u8], at: usize, event: &Event, names: usize) -> usize
@@ -69,6 +75,8 @@ trait Written {
 
 impl Written for Body {
     ghost bytes = { body_spelt_at };
+
+    ghost spelt = { λ n e. body_spelt n e.operation (event_body e) };
 
     fn width(event: &Event, names: usize) -> Result<usize, Refusal> {
         body_width(names, &event.operation, &body_of(event))
@@ -81,6 +89,8 @@ impl Written for Body {
 
 impl Written for Exception {
     ghost bytes = { exception_spelt_at };
+
+    ghost spelt = { λ n e. exception_spelt n (exception_of e) };
 
     fn width(event: &Event, names: usize) -> Result<usize, Refusal> {
         exception_width(names, exception_of(event))

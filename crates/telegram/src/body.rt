@@ -102,7 +102,7 @@ pub(crate) fn put_entries(out: &mut [u8], at: usize, version: &[u32]) -> usize
 }
 
 // How many bytes a body takes behind a list of so many names, its operation a part of s.
-// kept: begins with the two tests of `exception_width`, as the definitions `body_spelt` and `exception_spelt` do
+// kept: begins with the two tests of `exception_width`; a function for the two would be as long and need a definition of its own
 #[tactic(auto, unfolding(crate::specs::Writing::body_spelt))]
 pub fn body_width(count: usize, s: &[u8], body: &Body) -> Result<usize, Refusal>
     ensures { result ≡ measured (body_spelt count s.now body.now) }

@@ -22,7 +22,7 @@ pub struct Exception {
 }
 
 // So many exceptions from a place on, each read by itself with `read_exception`.
-// kept: `Batch` but for the name of a field, by which callers of `read_batch` and `read_since` know what they hold
+// kept: `Batch` but for the name of a field, by which callers of `read_batch` and `read_since` know what they hold; so those two calls are alike, too
 #[derive(Clone, Copy, Debug, PartialEq, Eq)]
 pub struct Since {
     pub head: Head,

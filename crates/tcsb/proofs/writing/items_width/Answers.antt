@@ -10,7 +10,7 @@ pub returns-in_err-sum : goal.returns-in_err-sum
 returns-in_err-sum g c =
     let a = c.args in
     item_refused g.I.Written.bytes a.words.now a.slots a.names
-    c.loop-slot.invariant.long c.meant-slot-items.ensures c.load.ensures c.loop-slot-test.true (c.in_err-sum.ensures)
+    c.loop-slot.invariant.long c.meant-slot-items.ensures c.load.ensures c.loop-slot-test.true (c.in_err-sum.ensures.measures)
 
 pub loop-slot-preserved : goal.loop-slot-preserved
 loop-slot-preserved g c =
@@ -18,7 +18,7 @@ loop-slot-preserved g c =
     record {
       long = c.loop-slot.invariant.long;
       counting = item_counted g.I.Written.bytes a.words.now a.slots a.names
-          c.meant-slot-items.ensures c.load.ensures c.loop-slot-test.true c.loop-slot.invariant.counting (c.in_ok-sum.ensures);
+          c.meant-slot-items.ensures c.load.ensures c.loop-slot-test.true c.loop-slot.invariant.counting (c.in_ok-sum.ensures.measures);
     }
 
 pub returns : goal.returns
