@@ -23,13 +23,13 @@ events_next p l i h = drop-cons (map (event_at p) l) i (event_at p 0) (simp leng
 
 -- d is the id of the event at position i, r how it compares, and v the variant that r is known to be
 pub find_next : (id d : EventId) (i : ℕ) (p l : List ℕ) (r v : Ordering) → i < length l → d ≡ id_of (event_at p (get_or l i 0))
-    → r ≡ ordering_then (nat_cmp d.idx.0 id.idx.0) (nat_cmp d.seq id.seq) → r ≡ v
+    → r ≡ cmp_of d.idx.0 d.seq id.idx.0 id.seq → r ≡ v
     → find_from id.idx.0 id.seq i (drop i (map (event_at p) l)) ≡ choose v (find_from id.idx.0 id.seq (i + 1) (drop (i + 1) (map (event_at p) l))) (Ok i) (Err i)
 unfolding find_from
 find_next id d i p l r v h e g f = rw (events_next p l i h, ← cmp) refl
   where
     cmp : v ≡ cmp_of (event_at p (get_or l i 0)).origin.0 (event_at p (get_or l i 0)).number id.idx.0 id.seq
-    cmp = sym f ∙ g ∙ id_order d.idx.0 d.seq id.idx.0 id.seq ∙ rw e refl
+    cmp = sym f ∙ g ∙ rw e refl
 
 pub find_end : (id : EventId) (i : ℕ) (p l : List ℕ) → length l ≤ i → find_from id.idx.0 id.seq i (drop i (map (event_at p) l)) ≡ Err i
 unfolding find_from

@@ -8,14 +8,14 @@ loop-i-init c = refl
 
 pub returns-in-Equal : goal.returns-in-Equal
 returns-in-Equal c =
-    rw (← c.meant-slots.ensures) (sym (c.loop-i.invariant ∙ find_next c.args.id _ _ _ _ _ _ c.loop-i-test.true c.id_at.ensures c.cmp.ensures c.in-Equal.is))
+    rw (← c.meant-slots.ensures) (sym (c.loop-i.invariant ∙ find_next c.args.id _ _ _ _ _ _ c.loop-i-test.true c.id_at.ensures c.compare.ensures c.in-Equal.is))
 
 pub returns-in-Greater : goal.returns-in-Greater
 returns-in-Greater c =
-    rw (← c.meant-slots.ensures) (sym (c.loop-i.invariant ∙ find_next c.args.id _ _ _ _ _ _ c.loop-i-test.true c.id_at.ensures c.cmp.ensures c.in-Greater.is))
+    rw (← c.meant-slots.ensures) (sym (c.loop-i.invariant ∙ find_next c.args.id _ _ _ _ _ _ c.loop-i-test.true c.id_at.ensures c.compare.ensures c.in-Greater.is))
 
 pub loop-i-preserved : goal.loop-i-preserved
-loop-i-preserved c = c.loop-i.invariant ∙ find_next c.args.id _ _ _ _ _ _ c.loop-i-test.true c.id_at.ensures c.cmp.ensures c.in-Less.is
+loop-i-preserved c = c.loop-i.invariant ∙ find_next c.args.id _ _ _ _ _ _ c.loop-i-test.true c.id_at.ensures c.compare.ensures c.in-Less.is
 
 pub returns : goal.returns
 returns c =
