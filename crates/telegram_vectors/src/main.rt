@@ -267,10 +267,10 @@ struct Subject {
 
 impl Subject {
     // Takes the telegram that stands in hex in a line.
-    fn take(&mut self, call: Call, hex: &[u8]) -> Result<(), AllocError> {
+    fn take(&mut self, call: Call, text: &[u8]) -> Result<(), AllocError> {
         self.call = Some(call);
         self.telegram.clear();
-        for pair in hex.chunks(2) {
+        for pair in text[behind_word(text)..].chunks(2) {
             let Some(byte) = hex_byte(pair) else {
                 break;
             };
@@ -339,12 +339,11 @@ impl Run {
         ensures { OnOk result (self.new.lines ≤ self.old.lines + 1) }
     {
         self.lines = self.lines.saturating_add(1);
-        let hex = &text[behind_word(text)..];
         match text.first() {
             Some(b'#') | None => {}
-            Some(b'e') => self.subject.take(Call::Event, hex)?,
-            Some(b'b') => self.subject.take(Call::Batch, hex)?,
-            Some(b's') => self.subject.take(Call::Since, hex)?,
+            Some(b'e') => self.subject.take(Call::Event, text)?,
+            Some(b'b') => self.subject.take(Call::Batch, text)?,
+            Some(b's') => self.subject.take(Call::Since, text)?,
             _ => {
                 if self.subject.agrees(text, out) {
                     self.agreed = self.agreed.saturating_add(1);
@@ -353,6 +352,16 @@ impl Run {
                     println!(rt; "disagrees: line {line}")?;
                 }
             }
+        }
+        Ok(())
+    }
+
+    // Replays lines, each once.
+    fn replay(&mut self, rt: &HostRuntime, text: &[u8], out: &mut [u8]) -> io::Result<()>
+        ensures { OnOk result (self.new.lines ≤ self.old.lines + length text.now) }
+    {
+        for line in text.split_inclusive(|b| *b == b'\n') {
+            self.line(rt, line, out)?;
         }
         Ok(())
     }
@@ -398,9 +407,7 @@ fn replay_file(
         let n = read_full(file, &mut buffer[have..])?;
         let held = have + n;
         let end = last_end(&buffer[..held]);
-        for line in buffer[..end].split_inclusive(|b| *b == b'\n') {
-            run.line(rt, line, out)?;
-        }
+        run.replay(rt, &buffer[..end], out)?;
         buffer.copy_within(end..held, 0);
         have = held - end;
         if n == 0 {
