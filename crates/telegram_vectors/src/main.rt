@@ -423,7 +423,7 @@ fn main(rt: HostRuntime) -> io::Result<()> {
     let mut out = vec![in rt.alloc(); 0u8; BUFFER]?;
     let subject = Subject {
         call: None,
-        telegram: Vec::new(rt.alloc()),
+        telegram: Vec::with_capacity(rt.alloc(), BUFFER)?,
     };
     let mut run = Run {
         agreed: 0,
