@@ -82,6 +82,13 @@ same-listed (x ∷ t) (y ∷ u) =
     pick false true d = refl
     pick false false d = refl
 
+pub other_length : (t u : List ℕ) → (length t ≡ length u → ⊥) → same_bytes t u ≡ false
+unfolding same_bytes
+other_length t u h = rw (ne_eqb (length t) (length u) h) refl
+
+-- what a test of two names, or of their lengths, says of them
+pub ruleset same_names = (same-listed, other_length)
+
 -- ---- the names of a list
 
 -- the names at two places are the same

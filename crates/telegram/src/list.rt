@@ -55,6 +55,7 @@ fn is_fair_name(name: &[u8]) -> bool
 }
 
 // Two names are the same bytes.
+#[tactic(auto, using(crate::proofs::Fair::same_names))]
 fn same_bytes(a: &[u8], b: &[u8]) -> bool
     ensures { result ≡ same_bytes a.now b.now }
 {
