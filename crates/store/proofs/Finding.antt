@@ -11,12 +11,17 @@ use Rattle.std.specs.declared.cmp.Ordering.{Ordering}
 use Rattle.std.specs.Ordering.{ordering_then, nat_cmp}
 use Rattle.std.proofs.lemmas.Bool.Decides.{nat_tests}
 use Rattle.clock.specs.declared.id.EventId.{EventId}
+use Rattle.clock.specs.contracts.id.EventIdOrd.TheImpl as derived
 use Rattle.store.specs.Words.{event_at, id_of}
 use Rattle.store.specs.Orders.{choose, cmp_of, find_from}
 
 -- the derived order of ids: by place, then number
 pub id_order : (a b o n : ℕ) → ordering_then (nat_cmp a o) (nat_cmp b n) ≡ cmp_of a b o n
 id_order a b o n = grind (arith, nat_tests)
+
+-- what the derived `cmp` of ids answers
+pub derived_order : (a b : EventId) → (derived.ghosts).cmp a b ≡ cmp_of a.idx.0 a.seq b.idx.0 b.seq
+derived_order a b = id_order a.idx.0 a.seq b.idx.0 b.seq
 
 events_next : (p l : List ℕ) (i : ℕ) → i < length l → drop i (map (event_at p) l) ≡ event_at p (get_or l i 0) ∷ drop (i + 1) (map (event_at p) l)
 events_next p l i h = drop-cons (map (event_at p) l) i (event_at p 0) (simp length-map (omega arith)) ∙ rw (get_or-map (event_at p) l i 0, add-one)
