@@ -106,7 +106,7 @@ impl Row {
     }
 
     // Whether no entry is above the other's.
-    // kept: an index in place of zip, take and all, which take 1.4 to 2.5 times the time at sixteen members
+    // kept: an index in place of zip, take and all, by which this takes 1.4 times the time at sixteen members, and `eq` twice
     pub fn at_most(self, other: Row, members: usize) -> bool
         ensures { result ≡ at_most members self.entries other.entries }
     {
