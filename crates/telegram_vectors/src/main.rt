@@ -2,7 +2,7 @@
 // vectors/telegrams says what its lines mean. Each telegram that is accepted is written again, too, and must come out as it came in.
 #![tactic(auto)]
 
-ghost use Rattle.std.specs.Prelude.{◌+◌, ◌≤◌, length, IfOk, OnOk};
+ghost use Rattle.std.specs.Prelude.{◌+◌, ◌*◌, ◌≤◌, length, IfOk, OnOk};
 
 use leb128::Got;
 use refusal::Refusal;
@@ -401,9 +401,11 @@ fn replay_file(
     buffer: &mut [u8],
     run: &mut Run,
     out: &mut [u8],
-) -> io::Result<()> {
+) -> io::Result<()>
+    ensures { OnOk result (run.new.lines ≤ run.old.lines + 1000 * length buffer.old) }
+{
     let mut have = 0;
-    for _ in 0..1000 {
+    for turn in 0..1000usize {
         let n = read_full(file, &mut buffer[have..])?;
         let held = have + n;
         let end = last_end(&buffer[..held]);
