@@ -15,7 +15,7 @@ use Rattle.store.specs.Orders as orders
 use Rattle.store.specs.declared.order.Store.{Store}
 use Rattle.tcsb.specs.declared.tcsb.Tcsb.{Tcsb}
 use Rattle.tcsb.specs.declared.receive.Verdict.{Verdict}
-use Rattle.tcsb.specs.declared.receive.Verdict.TheVariants.{Taken}
+use Rattle.tcsb.specs.declared.receive.Verdict.TheVariants.{Taken, Duplicate, Stale}
 use Rattle.tcsb.specs.Replica.{State, done, is_duplicate, is_stale, verdict_by, verdict_of, is_taken, insert_all, recorded}
 use Rattle.tcsb.specs.Tcsb.{view, Stores}
 use Rattle.tcsb.specs.Receive.{new_to, room_of, Stored, Recorded, take_of, Takes}
@@ -124,6 +124,14 @@ module _ (t : Tcsb) (p q : List ℕ) (e : Event) where
     fixed = refl;
     kept = λ k z. absurd (let z : ◌≡◌ {A = ℕ} 0 1 = cc in omega arith);
   }
+
+  -- so a duplicate
+  pub takes_duplicate : {v : Verdict} → v ≡ verdict_by t.matrix t.frontier e → v ≡ Duplicate → Takes p p q q t e t (Ok v)
+  takes_duplicate j h = takes_none j (rw h refl)
+
+  -- and a stale one
+  pub takes_stale : {v : Verdict} → v ≡ verdict_by t.matrix t.frontier e → v ≡ Stale → Takes p p q q t e t (Ok v)
+  takes_stale j h = takes_none j (rw h refl)
 
   -- how many more the stores would have
   abbrev pub more_in : ℕ

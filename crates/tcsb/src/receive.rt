@@ -113,6 +113,7 @@ impl Tcsb {
     }
 
     // An event of another member that is numbered right: 12 or 13 where it is to be taken and finds no room.
+    #[tactic(auto, using(crate::proofs::Taking::takes_duplicate, crate::proofs::Taking::takes_stale))]
     fn take(
         &mut self,
         inbox: &mut [u32],

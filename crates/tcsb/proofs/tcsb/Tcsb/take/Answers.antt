@@ -1,18 +1,10 @@
-use mathlib.Core.Path.{◌≡◌, refl, sym}
-use mathlib.Core.Bool.{false, true≢false}
+use mathlib.Core.Path.{◌≡◌, sym}
 use Rattle.std.proofs.Common.{rules, Err}
-use denote.Enum.Bare.{sameb, same_true}
+use denote.Enum.Bare.{same_true}
 use Rattle.tcsb.specs.contracts.receive.Verdict.{the_type}
-use Rattle.tcsb.specs.declared.receive.Verdict.TheVariants.{Taken, Duplicate, Stale}
-use Rattle.tcsb.specs.declared.receive.Verdict.{Verdict}
-use Rattle.tcsb.specs.Replica.{is_taken}
-use Rattle.tcsb.proofs.Taking.{roomed, takes_none, takes_not, takes_one, more_in, more_out}
+use Rattle.tcsb.specs.declared.receive.Verdict.TheVariants.{Taken}
+use Rattle.tcsb.proofs.Taking.{roomed, takes_not, takes_one, more_in, more_out}
 use Rattle.tcsb.proofs.tcsb.Tcsb.take.Goals as goal
-
-not_taken : (v : Verdict) → false ≡ sameb the_type v Taken → is_taken v ≡ false
-not_taken Taken e = absurd (true≢false (sym e))
-not_taken Duplicate e = refl
-not_taken Stale e = refl
 
 pub returns-in_err-room_for : goal.returns-in_err-room_for
 returns-in_err-room_for c =
@@ -32,8 +24,3 @@ returns-in_ok-room_for c =
     let x : c.new_in-extra.result ≡ more_out a.self.now a.inbox.now a.outbox.now a.event = search rules in
     let R = roomed a.self.now a.inbox.now a.outbox.now a.event c.judge-verdict.ensures v m x c.room_for.ensures in
     rw v (takes_one a.self.now a.inbox.now a.outbox.now a.event R c.in_ok-room_for.was c.record.ensures)
-
-pub returns-else-eq : goal.returns-else-eq
-returns-else-eq c =
-    let a = c.args in
-    takes_none a.self.now a.inbox.now a.outbox.now a.event c.judge-verdict.ensures (not_taken c.judge-verdict.result c.if-eq.ensures)
